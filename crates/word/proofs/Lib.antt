@@ -1,0 +1,4 @@
+pub mod Complement
+pub mod Parts
+pub mod Rotation
+pub mod Small

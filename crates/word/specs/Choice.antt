@@ -1,0 +1,23 @@
+-- The one test and the one choice that every definition of the machine, and later of the rows, goes by.
+-- Assumes nothing.
+use Prim.Native.Nat.{ℕ}
+use mathlib.Core.Bool.{Bool, true, false, not}
+use lib.Dec.{eqb}
+
+-- "if the condition isn't 0": the test of a bit, a register or a condition
+abbrev pub on : ℕ → Bool
+on x = not (eqb x 0)
+
+-- the first value where the test holds, else the second
+abbrev pub pick : {A : Type 0} → Bool → A → A → A
+pick true a b = a
+pick false a b = b
+
+-- the first value where the bit is set, else the second
+abbrev pub choose : {A : Type 0} → ℕ → A → A → A
+choose bit a b = pick (on bit) a b
+
+-- a test as a bit
+abbrev pub bit : Bool → ℕ
+bit true = 1
+bit false = 0

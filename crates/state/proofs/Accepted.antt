@@ -1,0 +1,66 @@
+-- A check finds a state fit exactly where it is acceptable: what the engines may rely on after their checks, and that no acceptable
+-- state is turned down.
+-- Assumes nothing.
+use mathlib.Core.Path.{_≡_, refl, sym, ap, _∙_, subst}
+use mathlib.Core.Bool.{Bool, true, false}
+use mathlib.Core.List.{List, [], _∷_}
+use Prim.Native.Nat.{ℕ, zero, suc, _+_, _^_, _≤_, _<_}
+use native.Mathlib.Nat.{le-refl}
+use native.Mathlib.Decide.{decLt}
+use native.Mathlib.Omega.{arith}
+use lib.ListN.{length, getD, List·getD-eq-default}
+use lib.Dec.{eqb, ltb, lit<}
+use lib.Pow.{pow-pos}
+use borrow.Author.Tests.{eqb-true, ltb-true, ltb-false, eq-eqb, lt-ltb, le-ltb}
+use Rattle.word.specs.Choice.{pick}
+use Rattle.word.specs.Word.{wordBits}
+use Rattle.state.specs.Limits.{memoryWords, budgetLimit, rowPlaces}
+use Rattle.state.specs.Checks.{firstUnfit, firstLargeWord, firstWideRegister, checkMemory, checkRegisters, checkBudget}
+use Rattle.state.specs.Acceptable.{Acceptable, Fitting}
+use Rattle.state.specs.declared.Refusal.{Refusal}
+use Rattle.state.specs.declared.Refusal.the-variants.{MemoryLength, Word, Register, Budget}
+use Rattle.state.specs.declared.Verdict.{Verdict}
+use Rattle.state.specs.declared.Verdict.the-variants.{Fit, Unfit}
+use Rattle.state.proofs.Scan.{all-fit, none-unfit}
+
+-- a verdict by a test is fit only on the side that is
+fit-false : (b : Bool) (why : Refusal) (other : Verdict) → pick b (Unfit why) other ≡ Fit → (b ≡ false) × (other ≡ Fit)
+fit-false true why other e = let z : _≡_ {A = ℕ} 0 1 = cc in absurd (omega arith)
+fit-false false why other e = (refl, e)
+
+fit-true : (b : Bool) (other : Verdict) (why : Refusal) → pick b other (Unfit why) ≡ Fit → (b ≡ true) × (other ≡ Fit)
+fit-true true other why e = (refl, e)
+fit-true false other why e = let z : _≡_ {A = ℕ} 0 1 = cc in absurd (omega arith)
+
+-- a scan that found nothing bounds every place, also past the list
+narrow-all : (width : ℕ → ℕ) (l : List ℕ) → length l ≤ firstUnfit width 0 l → (k : ℕ) → getD l k 0 < 2 ^ width k
+narrow-all width l h k =
+    elim (decLt k (length l)) [
+      | yes q ↦ ltb-true _ _ (all-fit width l h k q)
+      | no q ↦ (let past : length l ≤ k = omega arith in rw (List·getD-eq-default l 0 past) (pow-pos (width k)))
+    ]
+
+pub memory-acceptable : (memory : List ℕ) → checkMemory memory ≡ Fit → Acceptable memory
+memory-acceptable memory e =
+    let first = fit-true (eqb (length memory) memoryWords) _ MemoryLength e in
+    let later = fit-false (ltb (firstLargeWord memory) (length memory)) _ Fit (first .1) in
+    record { size = eqb-true _ _ (first .0); words = narrow-all (λ k. wordBits) memory (ltb-false _ _ (later .0)) }
+
+pub acceptable-memory : (memory : List ℕ) → Acceptable memory → checkMemory memory ≡ Fit
+acceptable-memory memory a =
+    simp (eq-eqb _ _ (a .size), le-ltb _ _ (none-unfit (λ k. wordBits) memory (λ k q. lt-ltb _ _ (a .words k))))
+
+pub registers-fitting : (widths values : List ℕ) → checkRegisters widths values ≡ Fit → Fitting widths values
+registers-fitting widths values e =
+    let later = fit-false (ltb (firstWideRegister widths values) (length values)) _ Fit e in
+    record { narrow = narrow-all (λ k. getD widths k 0) values (ltb-false _ _ (later .0)) }
+
+pub fitting-registers : (widths values : List ℕ) → Fitting widths values → checkRegisters widths values ≡ Fit
+fitting-registers widths values f =
+    simp (le-ltb _ _ (none-unfit (λ k. getD widths k 0) values (λ k q. lt-ltb _ _ (f .narrow k))))
+
+pub budget-within : (budget : ℕ) → checkBudget budget ≡ Fit → budget ≤ budgetLimit
+budget-within budget e = ltb-false _ _ (fit-false (ltb budgetLimit budget) Budget Fit e .0)
+
+pub within-budget : (budget : ℕ) → budget ≤ budgetLimit → checkBudget budget ≡ Fit
+within-budget budget h = simp (le-ltb _ _ h)

@@ -1,0 +1,17 @@
+-- `state::check_registers`: the code's test is the definition's.
+use borrow.Author.Tests.{lt-ltb, le-ltb}
+use borrow.Author.Needs.{needs}
+use Rattle.state.proofs.check_registers.Statement.{statement}
+use Rattle.state.proofs.check_registers.Tie as tie
+
+first-unfit-requires : tie.Need-first-unfit-requires
+first-unfit-requires c κs = search needs
+
+returns : tie.Need-returns
+returns c = simp (← c .before .first-unfit .ensures, lt-ltb _ _ (c .if1 .taken))
+
+returns-2 : tie.Need-returns-2
+returns-2 c = simp (← c .before .first-unfit .ensures, le-ltb _ _ (c .if1 .left))
+
+pub check-registers-spec : {M : Type 1} → statement M
+check-registers-spec = tie.close (tie.spec first-unfit-requires returns returns-2)

@@ -1,0 +1,167 @@
+// What both engines share: the reasons of a run's end, the state refusals 11 to 15, and the checks of memory, registers, budget and
+// row list that give them.
+ghost use Prim.Native.Nat.{ℕ, _≤_};
+ghost use mathlib.Core.Path.{_≡_};
+ghost use lib.ListN.{getD};
+ghost use Rattle.word.specs.Word.{widest, fits};
+ghost use Rattle.state.specs.Checks.{firstUnfit, checkMemory, checkRegisters, checkBudget, checkRowList};
+ghost use Rattle.state.specs.Refusals.{orElse, reasonNumber, numberOf, placeOf};
+
+pub const MEMORY_WORDS: usize = 4096;
+
+pub const WORD_BITS: u64 = 12;
+
+pub const BUDGET_LIMIT: u64 = 1_000_000;
+
+pub const ROW_PLACES: usize = 128;
+
+// Why a run ended: RUN is 0, or the budget is done.
+pub enum Reason {
+    Halted,
+    Spent,
+}
+
+// Why a state is turned down, with the lowest offending place where one applies.
+pub enum Refusal {
+    MemoryLength,
+    Word(usize),
+    Register(usize),
+    Budget,
+    RowList,
+}
+
+// What a check finds.
+pub enum Verdict {
+    Fit,
+    Unfit(Refusal),
+}
+
+// The bits that a place may hold: its width, or what every place past the widths has.
+fn width_at(widths: &[u64], beyond: u64, place: usize) -> u64
+    ensures { λ r. ⌜ r ≡ getD (now (widths .entry)) place beyond ⌝ }
+{
+    if place < widths.len() {
+        widths[place]
+    } else {
+        beyond
+    }
+}
+
+// Whether a value has no more bits than its place may hold.
+fn is_fit(widths: &[u64], beyond: u64, place: usize, value: u16) -> bool
+    requires { ⌜ ((k : ℕ) → getD (now widths) k beyond ≤ widest) ⌝ }
+    ensures { λ r. ⌜ r ≡ fits (getD (now (widths .entry)) place beyond) value ⌝ }
+{
+    word::is_narrow(width_at(widths, beyond, place), value as u64)
+}
+
+// The lowest place whose value has more bits than the place may hold, or the number of values.
+fn first_unfit(widths: &[u64], beyond: u64, values: &[u16]) -> usize
+    requires { ⌜ ((k : ℕ) → getD (now widths) k beyond ≤ widest) ⌝ }
+    ensures { λ r. ⌜ r ≡ firstUnfit (λ k. getD (now (widths .entry)) k beyond) 0 (now (values .entry)) ⌝ }
+{
+    let mut i = 0;
+    while i < values.len() {
+        if !is_fit(widths, beyond, i, values[i]) {
+            return i;
+        }
+        i += 1;
+    }
+    i
+}
+
+// 11 and 12.
+pub fn check_memory(memory: &[u16]) -> Verdict
+    ensures { λ r. ⌜ r ≡ checkMemory (now (memory .entry)) ⌝ }
+{
+    if memory.len() != MEMORY_WORDS {
+        return Verdict::Unfit(Refusal::MemoryLength);
+    }
+    let place = first_unfit(&[0; 0], WORD_BITS, memory);
+    if place < memory.len() {
+        Verdict::Unfit(Refusal::Word(place))
+    } else {
+        Verdict::Fit
+    }
+}
+
+// 13.
+pub fn check_registers(widths: &[u64], values: &[u16]) -> Verdict
+    requires { ⌜ ((k : ℕ) → getD (now widths) k 0 ≤ widest) ⌝ }
+    ensures { λ r. ⌜ r ≡ checkRegisters (now (widths .entry)) (now (values .entry)) ⌝ }
+{
+    let place = first_unfit(widths, 0, values);
+    if place < values.len() {
+        Verdict::Unfit(Refusal::Register(place))
+    } else {
+        Verdict::Fit
+    }
+}
+
+// 14.
+pub fn check_budget(budget: u64) -> Verdict
+    ensures { λ r. ⌜ r ≡ checkBudget budget ⌝ }
+{
+    if BUDGET_LIMIT < budget {
+        Verdict::Unfit(Refusal::Budget)
+    } else {
+        Verdict::Fit
+    }
+}
+
+// 15.
+pub fn check_row_list(places: usize) -> Verdict
+    ensures { λ r. ⌜ r ≡ checkRowList places ⌝ }
+{
+    if places < ROW_PLACES {
+        Verdict::Unfit(Refusal::RowList)
+    } else {
+        Verdict::Fit
+    }
+}
+
+// The first of two checks' refusals.
+pub fn or_else(first: Verdict, later: Verdict) -> Verdict
+    ensures { λ r. ⌜ r ≡ orElse first later ⌝ }
+{
+    match first {
+        Verdict::Fit => later,
+        Verdict::Unfit(why) => Verdict::Unfit(why),
+    }
+}
+
+// A reason's number in the C interface.
+pub fn reason_number(reason: Reason) -> u64
+    ensures { λ r. ⌜ r ≡ reasonNumber reason ⌝ }
+{
+    match reason {
+        Reason::Halted => 1,
+        Reason::Spent => 2,
+    }
+}
+
+// A refusal's number.
+pub fn refusal_number(refusal: Refusal) -> u64
+    ensures { λ r. ⌜ r ≡ numberOf refusal ⌝ }
+{
+    match refusal {
+        Refusal::MemoryLength => 11,
+        Refusal::Word(_) => 12,
+        Refusal::Register(_) => 13,
+        Refusal::Budget => 14,
+        Refusal::RowList => 15,
+    }
+}
+
+// A refusal's place.
+pub fn refusal_place(refusal: Refusal) -> u64
+    ensures { λ r. ⌜ r ≡ placeOf refusal ⌝ }
+{
+    match refusal {
+        Refusal::MemoryLength => 0,
+        Refusal::Word(place) => place as u64,
+        Refusal::Register(place) => place as u64,
+        Refusal::Budget => 0,
+        Refusal::RowList => 0,
+    }
+}

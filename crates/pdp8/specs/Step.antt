@@ -1,0 +1,24 @@
+-- "One step: i = M[PC]; last.pc = PC; PC = PC + 1; execute; interrupt test."
+-- Assumes nothing.
+use Prim.Native.Nat.{ℕ}
+use mathlib.Core.Bool.{true, false}
+use lib.Dec.{eqb}
+use Rattle.word.specs.Word.{next}
+use Rattle.pdp8.specs.State.{State, word, withPc}
+use Rattle.pdp8.specs.Instruction.{op}
+use Rattle.pdp8.specs.Reference.{reference}
+use Rattle.pdp8.specs.Operate.{operate}
+use Rattle.pdp8.specs.Interrupt.{interruptTest, inputOutput}
+
+-- the instruction i that was fetched from `last`, by its op, and the interrupt test, which op 6 may omit
+unfoldable pub execute : ℕ → ℕ → State → State
+unfolding inputOutput operate reference interruptTest
+execute i last s =
+    elim (eqb (op i) 6) [
+      | true ↦ inputOutput i s
+      | false ↦ interruptTest (elim (eqb (op i) 7) [ true ↦ operate i s | false ↦ reference i last s ])
+    ]
+
+unfoldable pub step : State → State
+unfolding execute
+step s = execute (word (s .pc) s) (s .pc) (withPc (next (s .pc)) s)

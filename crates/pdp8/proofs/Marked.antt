@@ -3,9 +3,13 @@
 use mathlib.Core.Path.{_≡_, refl}
 use mathlib.Core.List.{List, map}
 use Rattle.pdp8.specs.State.{State}
-use Rattle.pdp8.specs.Step.{step}
-use Rattle.pdp8.specs.Marked.{Mark, marked}
+use Rattle.pdp8.specs.Step.{execute, step}
+use Rattle.pdp8.specs.Address.{firstAddress, indexed, effective, afterIndexing}
+use Rattle.pdp8.specs.Reference.{operation, reference}
+use Rattle.pdp8.specs.Operate.{changed, rotated, skips, group1, group2, group3, operate}
+use Rattle.pdp8.specs.Interrupt.{interruptTest, inputOutput}
+use Rattle.pdp8.specs.Marked.{Mark, marked, ready, imageL, requested}
 
 pub marked-steps : map (λ (m : Mark). step (m .before)) marked ≡ map (λ (m : Mark). m .after) marked
-unfolding step marked
+unfolding step execute inputOutput interruptTest operate group1 group2 group3 changed rotated skips reference operation effective afterIndexing firstAddress indexed marked imageL requested ready
 marked-steps = refl

@@ -1,5 +1,6 @@
 -- "Address": the address that ops 0 to 5 work on, and the memory that auto-indexing leaves.
 -- Assumes nothing.
+use mathlib.Core.Path.{_≡_}
 use mathlib.Core.List.{List}
 use Prim.Native.Nat.{ℕ, _/_}
 use lib.ListN.{getD, set}
@@ -22,10 +23,13 @@ indexed a memory = pick (eqb (a / 8) 1) (set memory a (next (getD memory a 0))) 
 
 -- "If ib = 1: .., then the address becomes the word there"
 unfoldable pub effective : ℕ → ℕ → List ℕ → ℕ
-unfolding firstAddress indexed
 effective i last memory = choose (ib i) (getD (indexed (firstAddress i last) memory) (firstAddress i last) 0) (firstAddress i last)
 
 -- the memory after the address has been worked out
 unfoldable pub afterIndexing : ℕ → ℕ → List ℕ → List ℕ
-unfolding firstAddress indexed
 afterIndexing i last memory = choose (ib i) (indexed (firstAddress i last) memory) memory
+
+-- what working the address out yields: the address, and the memory that it leaves
+pub record Addressed (i last : ℕ) (before after : List ℕ) (e : ℕ) : Type 0 where
+  pub address : e ≡ effective i last before
+  pub memory : after ≡ afterIndexing i last before

@@ -50,5 +50,4 @@ abbrev pub finished : Run → Report
 finished r = ran (registers (r .state)) (r .reason) (r .steps) (r .state .memory)
 
 unfoldable pub emulate : Machine → List ℕ → ℕ → Report
-unfolding run
 emulate m memory budget = elim (check m memory budget) [ Fit ↦ finished (run budget (start m memory)) | Unfit why ↦ refused why m memory ]

@@ -24,7 +24,6 @@ iof = 0o6002
 
 -- "6: ..; any other has no effect", and the interrupt test of this step
 unfoldable pub inputOutput : ℕ → State → State
-unfolding interruptTest
 inputOutput i s =
     elim (eqb i ion) [
       | true ↦ withEnable 1 s

@@ -18,7 +18,6 @@ ready =
 
 -- the image (L)
 unfoldable pub imageL : State
-unfolding ready
 imageL = stored 0o200 0o7300 (stored 0o201 0o1204 (stored 0o202 0o7001 (stored 0o203 0o7402 (stored 0o204 0o7777 ready))))
 
 -- an instruction at 0200 and a LAC, and the LAC after it
@@ -28,12 +27,10 @@ onLac i lac after =
 
 -- INTERRUPT.REQUEST 1, with 6001 at 0200 and 7000 at 0201
 unfoldable pub requested : State
-unfolding ready
 requested =
     record { lac = 0; pc = 0o200; run = 1; enable = 0; request = 1; switches = 0; memory = set (set (replicate memoryWords 0) 0o200 0o6001) 0o201 0o7000 }
 
 unfoldable pub marked : List Mark
-unfolding ready imageL requested
 marked =
     -- "(L)": 7300, 1204, 7001, 7402
     record { before = imageL; after = withPc 0o201 imageL }

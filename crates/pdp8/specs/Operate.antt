@@ -49,7 +49,6 @@ unfoldable pub changed : ℕ → ℕ → ℕ
 changed i lac = increased i (linkComplemented i (complemented i (linkCleared i (cleared i lac))))
 
 unfoldable pub group1 : ℕ → State → State
-unfolding rotated changed
 group1 i s = withLac (rotated i (changed i (s .lac))) s
 
 -- ---- "Op 7, bit 3 = 1, bit 11 = 0"
@@ -77,7 +76,6 @@ switched i switches lac = choose (flag 9 i) (withAc lac (bitOr (ac lac) switches
 
 -- "First the skip. .. Then bit 4 clears AC; then bit 9 ors SWITCHES into AC and bit 10 sets RUN to 0"
 unfoldable pub group2 : ℕ → State → State
-unfolding skips
 group2 i s =
     withPc (pick (skips i (s .lac)) (next (s .pc)) (s .pc))
     (withLac (switched i (s .switches) (cleared i (s .lac)))
@@ -89,5 +87,4 @@ unfoldable pub group3 : ℕ → State → State
 group3 i s = withLac (cleared i (s .lac)) s
 
 unfoldable pub operate : ℕ → State → State
-unfolding group1 group2 group3
 operate i s = elim (on (flag 3 i)) [ true ↦ elim (on (flag 11 i)) [ true ↦ group3 i s | false ↦ group2 i s ] | false ↦ group1 i s ]

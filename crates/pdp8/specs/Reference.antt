@@ -53,5 +53,4 @@ operation n e s =
 
 -- the instruction i that was fetched from `last`: address, then operation
 unfoldable pub reference : ℕ → ℕ → State → State
-unfolding effective afterIndexing operation
 reference i last s = operation (op i) (effective i last (s .memory)) (withMemory (afterIndexing i last (s .memory)) s)

@@ -1,6 +1,6 @@
 -- A run: "A run makes steps .., each from what the last one left, while RUN is 1 and fewer than the budget are done."
 -- Assumes nothing.
-use Prim.Native.Nat.{ℕ, zero, suc}
+use Prim.Native.Nat.{ℕ, zero, suc, _+_}
 use mathlib.Core.Bool.{true, false}
 use Rattle.word.specs.Choice.{on, choose}
 use Rattle.state.specs.declared.Reason.{Reason}
@@ -23,11 +23,18 @@ ended done s = record { state = s; steps = done; reason = reasonOf s }
 
 -- `left` steps of the budget are left, and `done` steps have been done
 unfoldable pub runFrom : ℕ → ℕ → State → Run
-unfolding step
 runFrom zero done s = ended done s
 runFrom (suc left) done s = elim (on (s .run)) [ true ↦ runFrom left (suc done) (step s) | false ↦ ended done s ]
 
 -- the run of a budget
 unfoldable pub run : ℕ → State → Run
-unfolding runFrom
 run budget s = runFrom budget 0 s
+
+-- the state after n steps, for what is said of whole runs
+unfoldable pub after : ℕ → State → State
+after zero s = s
+after (suc n) s = after n (step s)
+
+-- a run that follows `done` steps of an earlier one
+abbrev pub following : ℕ → Run → Run
+following done r = record { state = r .state; steps = done + r .steps; reason = r .reason }

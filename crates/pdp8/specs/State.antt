@@ -36,7 +36,11 @@ abbrev pub start : Machine → List ℕ → State
 start m memory =
     record { lac = m .lac; pc = m .pc; run = m .run; enable = m .enable; request = m .request; switches = m .switches; memory = memory }
 
--- the same of the registers that the emulator works with
+-- the registers that the emulator works with, as a caller's
+abbrev pub narrowed : Processor → Machine
+narrowed p = record { lac = p .lac; pc = p .pc; run = p .run; enable = p .enable; request = p .request; switches = p .switches }
+
+-- the state that they and memory make
 abbrev pub at : Processor → List ℕ → State
 at p memory =
     record { lac = p .lac; pc = p .pc; run = p .run; enable = p .enable; request = p .request; switches = p .switches; memory = memory }
@@ -96,3 +100,12 @@ pub record Good (s : State) : Type 0 where
   pub request : s .request < 2
   pub switches : s .switches < 2 ^ wordBits
   pub memory : Acceptable (s .memory)
+
+-- of the registers that the emulator works with alone: each fits its width
+pub record Narrow (p : Processor) : Type 0 where
+  pub lac : p .lac < 2 ^ lacBits
+  pub pc : p .pc < 2 ^ wordBits
+  pub run : p .run < 2
+  pub enable : p .enable < 2
+  pub request : p .request < 2
+  pub switches : p .switches < 2 ^ wordBits

@@ -12,7 +12,6 @@ use Rattle.pdp8.specs.Interrupt.{interruptTest, inputOutput}
 
 -- the instruction i that was fetched from `last`, by its op, and the interrupt test, which op 6 may omit
 unfoldable pub execute : ℕ → ℕ → State → State
-unfolding inputOutput operate reference interruptTest
 execute i last s =
     elim (eqb (op i) 6) [
       | true ↦ inputOutput i s
@@ -20,5 +19,4 @@ execute i last s =
     ]
 
 unfoldable pub step : State → State
-unfolding execute
 step s = execute (word (s .pc) s) (s .pc) (withPc (next (s .pc)) s)

@@ -1,4 +1,14 @@
-// The PDP-8: 4,096 words of 12 bits, six registers, run step by step to a budget.
+// The PDP-8: 4,096 words of 12 bits and six registers, run step by step to a budget.
+pub mod address;
+pub mod emulate;
+pub mod instruction;
+pub mod interrupt;
+pub mod memory;
+pub mod operate;
+pub mod reference;
+pub mod run;
+pub mod step;
+
 use state::Reason;
 use state::Refusal;
 
@@ -12,7 +22,7 @@ pub struct Machine {
     pub switches: u16,
 }
 
-// The same registers as the emulator works with them: each in a machine word of its own.
+// The same registers as the emulator works with them, each in a machine word of its own.
 pub struct Processor {
     pub lac: u64,
     pub pc: u64,

@@ -8,7 +8,7 @@ use Prim.Native.Nat.{ℕ, zero, suc, _+_, _^_, _≤_, _<_}
 use native.Mathlib.Nat.{le-refl}
 use native.Mathlib.Decide.{decLt}
 use native.Mathlib.Omega.{arith}
-use lib.ListN.{length, getD, List·getD-eq-default}
+use lib.ListN.{length, getD, set, length-set, List·getD-eq-default}
 use lib.Dec.{eqb, ltb, lit<}
 use lib.Pow.{pow-pos}
 use borrow.Author.Tests.{eqb-true, ltb-true, ltb-false, eq-eqb, lt-ltb, le-ltb}
@@ -16,6 +16,7 @@ use Rattle.word.specs.Choice.{pick}
 use Rattle.word.specs.Word.{wordBits}
 use Rattle.state.specs.Limits.{memoryWords, budgetLimit, rowPlaces}
 use Rattle.state.specs.Checks.{firstUnfit, firstLargeWord, firstWideRegister, checkMemory, checkRegisters, checkBudget}
+use Rattle.state.specs.Refusals.{orElse}
 use Rattle.state.specs.Acceptable.{Acceptable, Fitting}
 use Rattle.state.specs.declared.Refusal.{Refusal}
 use Rattle.state.specs.declared.Refusal.the-variants.{MemoryLength, Word, Register, Budget}
@@ -64,3 +65,23 @@ budget-within budget e = ltb-false _ _ (fit-false (ltb budgetLimit budget) Budge
 
 pub within-budget : (budget : ℕ) → budget ≤ budgetLimit → checkBudget budget ≡ Fit
 within-budget budget h = simp (le-ltb _ _ h)
+
+-- a store of a word keeps memory acceptable
+pub store-acceptable : {memory : List ℕ} (a : ℕ) {x : ℕ} → x < 2 ^ wordBits → Acceptable memory → Acceptable (set memory a x)
+store-acceptable {memory} a {x} h m =
+    record {
+      size = length-set memory a x ∙ m .size;
+      words = λ k. stored-narrow memory a k x (m .words k) h;
+    }
+  where
+    stored-narrow : (l : List ℕ) (a k x : ℕ) → getD l k 0 < 2 ^ wordBits → x < 2 ^ wordBits → getD (set l a x) k 0 < 2 ^ wordBits
+    stored-narrow [] a k x h q = h
+    stored-narrow (y ∷ ys) zero zero x h q = q
+    stored-narrow (y ∷ ys) zero (suc k) x h q = h
+    stored-narrow (y ∷ ys) (suc a) zero x h q = h
+    stored-narrow (y ∷ ys) (suc a) (suc k) x h q = stored-narrow ys a k x h q
+
+-- two checks in order find nothing exactly where neither does
+pub both-fit : (a b : Verdict) → orElse a b ≡ Fit → (a ≡ Fit) × (b ≡ Fit)
+both-fit Fit b e = (refl, e)
+both-fit (Unfit why) b e = let z : _≡_ {A = ℕ} 0 1 = cc in absurd (omega arith)

@@ -1,3 +1,4 @@
+pub mod Choice
 pub mod Complement
 pub mod Parts
 pub mod Rotation

@@ -1,0 +1,92 @@
+// The emulator's entry: any memory, registers and budget.
+use crate::Answer;
+use crate::Machine;
+use crate::Processor;
+use crate::run;
+use state::Reason;
+use state::Verdict;
+ghost use mathlib.Core.Path.{_≡_};
+ghost use Rattle.word.specs.Choice.{choose};
+ghost use Rattle.state.specs.Checks.{checkRegisters};
+ghost use Rattle.state.specs.declared.Reason.the-variants.{Halted, Spent};
+ghost use Rattle.pdp8.specs.State.{start, values, widths, narrowed, Narrow, Good};
+ghost use Rattle.pdp8.specs.Run.{run};
+ghost use Rattle.pdp8.specs.Emulate.{report, check, finished as finishedRun, emulate as emulation};
+
+// 13: the six registers by their widths.
+fn check_machine(m: Machine) -> Verdict
+    ensures { λ r. ⌜ r ≡ checkRegisters widths (values m) ⌝ }
+{
+    state::check_registers(
+        &[13, 12, 1, 1, 1, 12],
+        &[m.lac, m.pc, m.run, m.enable, m.request, m.switches],
+    )
+}
+
+// 11 to 14, in this order.
+fn checked(memory: &[u16], m: Machine, budget: u64) -> Verdict
+    ensures { λ r. ⌜ r ≡ check m (now (memory .entry)) budget ⌝ }
+{
+    let later = state::or_else(check_machine(m), state::check_budget(budget));
+    state::or_else(state::check_memory(memory), later)
+}
+
+// A caller's registers, as the emulator works with them.
+fn opened(m: Machine) -> Processor
+    ensures { λ r. ⌜ narrowed r ≡ m ⌝ }
+{
+    Processor {
+        lac: m.lac as u64,
+        pc: m.pc as u64,
+        run: m.run as u64,
+        enable: m.enable as u64,
+        request: m.request as u64,
+        switches: m.switches as u64,
+    }
+}
+
+// And back.
+fn closed(p: Processor) -> Machine
+    requires { ⌜ Narrow p ⌝ }
+    ensures { λ r. ⌜ r ≡ narrowed p ⌝ }
+{
+    Machine {
+        lac: p.lac as u16,
+        pc: p.pc as u16,
+        run: p.run as u16,
+        enable: p.enable as u16,
+        request: p.request as u16,
+        switches: p.switches as u16,
+    }
+}
+
+// Why a run ended.
+fn reason(run: u64) -> Reason
+    ensures { λ r. ⌜ r ≡ choose run Spent Halted ⌝ }
+{
+    if run != 0 {
+        Reason::Spent
+    } else {
+        Reason::Halted
+    }
+}
+
+// The run of a state that no check turns down.
+fn finished(memory: &mut [u16], m: Machine, budget: u64) -> Answer
+    requires { ⌜ Good (start m (now memory)) ⌝ }
+    ensures { λ r. ⌜ report m r (now (memory .exit)) ≡ finishedRun (run budget (start m (now (memory .entry)))) ⌝ }
+{
+    let end = run::run(memory, opened(m), budget);
+    let p = end.processor;
+    Answer::Ran(closed(p), reason(p.run), end.steps)
+}
+
+// A run of a budget, or the first refusal of 11 to 14, after which all is as it came.
+pub fn emulate(memory: &mut [u16], m: Machine, budget: u64) -> Answer
+    ensures { λ r. ⌜ report m r (now (memory .exit)) ≡ emulation m (now (memory .entry)) budget ⌝ }
+{
+    match checked(memory, m, budget) {
+        Verdict::Unfit(why) => Answer::Refused(why),
+        Verdict::Fit => finished(memory, m, budget),
+    }
+}

@@ -1,0 +1,105 @@
+// Ops 0 to 5, each with the step's interrupt test at its end.
+use crate::Processor;
+use crate::address::effective_address;
+use crate::interrupt::interrupt_test;
+use crate::memory::load;
+use crate::memory::store;
+ghost use mathlib.Core.Path.{_≡_};
+ghost use Prim.Native.Nat.{_^_, _<_};
+ghost use Rattle.word.specs.Word.{wordBits};
+ghost use Rattle.pdp8.specs.State.{at, ac, withAc, withoutAc, lacBits, Good};
+ghost use Rattle.pdp8.specs.Reference.{andTo, addTo, incrementAndSkip, deposit, callAt, jumpTo, operation, reference};
+ghost use Rattle.pdp8.specs.Interrupt.{interruptTest};
+
+// 0: AC = AC And M[e].
+fn and_to(memory: &mut [u16], p: Processor, e: u64) -> Processor
+    requires { ⌜ Good (at p (now memory)) ⌝ ∗ ⌜ e < 2 ^ wordBits ⌝ }
+    ensures { λ r. ⌜ at r (now (memory .exit)) ≡ interruptTest (andTo e (at p (now (memory .entry)))) ⌝ }
+{
+    let word = load(memory, e);
+    let mut q = p;
+    q.lac = p.lac / 4096 * 4096 + (word::part(13, 1, 12, p.lac) & word);
+    interrupt_test(memory, q)
+}
+
+// 1: LAC = LAC + M[e].
+fn add_to(memory: &mut [u16], p: Processor, e: u64) -> Processor
+    requires { ⌜ Good (at p (now memory)) ⌝ ∗ ⌜ e < 2 ^ wordBits ⌝ }
+    ensures { λ r. ⌜ at r (now (memory .exit)) ≡ interruptTest (addTo e (at p (now (memory .entry)))) ⌝ }
+{
+    let word = load(memory, e);
+    let mut q = p;
+    q.lac = (p.lac + word) % 8192;
+    interrupt_test(memory, q)
+}
+
+// 2: increase M[e]; if it is now 0, PC + 1.
+fn increment_and_skip(memory: &mut [u16], p: Processor, e: u64) -> Processor
+    requires { ⌜ Good (at p (now memory)) ⌝ ∗ ⌜ e < 2 ^ wordBits ⌝ }
+    ensures { λ r. ⌜ at r (now (memory .exit)) ≡ interruptTest (incrementAndSkip e (at p (now (memory .entry)))) ⌝ }
+{
+    let word = word::increment(load(memory, e));
+    store(memory, e, word);
+    if word != 0 {
+        return interrupt_test(memory, p);
+    }
+    let mut q = p;
+    q.pc = word::increment(p.pc);
+    interrupt_test(memory, q)
+}
+
+// 3: M[e] = AC, then AC = 0.
+fn deposit_at(memory: &mut [u16], p: Processor, e: u64) -> Processor
+    requires { ⌜ Good (at p (now memory)) ⌝ ∗ ⌜ e < 2 ^ wordBits ⌝ }
+    ensures { λ r. ⌜ at r (now (memory .exit)) ≡ interruptTest (deposit e (at p (now (memory .entry)))) ⌝ }
+{
+    store(memory, e, word::part(13, 1, 12, p.lac));
+    let mut q = p;
+    q.lac = p.lac / 4096 * 4096;
+    interrupt_test(memory, q)
+}
+
+// 4: M[e] = PC, then PC = e + 1.
+fn call_at(memory: &mut [u16], p: Processor, e: u64) -> Processor
+    requires { ⌜ Good (at p (now memory)) ⌝ ∗ ⌜ e < 2 ^ wordBits ⌝ }
+    ensures { λ r. ⌜ at r (now (memory .exit)) ≡ interruptTest (callAt e (at p (now (memory .entry)))) ⌝ }
+{
+    store(memory, e, p.pc);
+    let mut q = p;
+    q.pc = word::increment(e);
+    interrupt_test(memory, q)
+}
+
+// 5: PC = e.
+fn jump_to(memory: &mut [u16], p: Processor, e: u64) -> Processor
+    requires { ⌜ Good (at p (now memory)) ⌝ ∗ ⌜ e < 2 ^ wordBits ⌝ }
+    ensures { λ r. ⌜ at r (now (memory .exit)) ≡ interruptTest (jumpTo e (at p (now (memory .entry)))) ⌝ }
+{
+    let mut q = p;
+    q.pc = e;
+    interrupt_test(memory, q)
+}
+
+// The op's work on its address.
+fn operated(memory: &mut [u16], p: Processor, op: u64, e: u64) -> Processor
+    requires { ⌜ Good (at p (now memory)) ⌝ ∗ ⌜ e < 2 ^ wordBits ⌝ }
+    ensures { λ r. ⌜ at r (now (memory .exit)) ≡ interruptTest (operation op e (at p (now (memory .entry)))) ⌝ }
+{
+    match op {
+        0 => and_to(memory, p, e),
+        1 => add_to(memory, p, e),
+        2 => increment_and_skip(memory, p, e),
+        3 => deposit_at(memory, p, e),
+        4 => call_at(memory, p, e),
+        _ => jump_to(memory, p, e),
+    }
+}
+
+// The instruction i that was fetched from `last`: its address is worked out once.
+pub fn refer(memory: &mut [u16], p: Processor, i: u64, last: u64) -> Processor
+    requires { ⌜ Good (at p (now memory)) ⌝ ∗ ⌜ i < 2 ^ wordBits ⌝ ∗ ⌜ last < 2 ^ wordBits ⌝ }
+    ensures { λ r. ⌜ at r (now (memory .exit)) ≡ interruptTest (reference i last (at p (now (memory .entry)))) ⌝ }
+{
+    let e = effective_address(memory, i, last);
+    operated(memory, p, word::part(12, 0, 2, i), e)
+}

@@ -1,0 +1,23 @@
+-- The laws of a choice: what holds of both values holds of the chosen one.
+-- Assumes nothing.
+use mathlib.Core.Path.{_≡_, refl}
+use native.Mathlib.Omega.{arith}
+use Prim.Native.Nat.{ℕ}
+use mathlib.Core.Bool.{Bool, true, false}
+use Rattle.word.specs.Choice.{on, pick, choose}
+
+pub pick-either : {A : Type 0} (P : A → Type 0) (b : Bool) {x y : A} → P x → P y → P (pick b x y)
+pick-either P true p q = p
+pick-either P false p q = q
+
+pub choose-either : {A : Type 0} (P : A → Type 0) (bit : ℕ) {x y : A} → P x → P y → P (choose bit x y)
+choose-either P bit p q = pick-either P (on bit) p q
+
+-- a case by a test whose value is known
+pub case-true {ℓ} : {A : Type ℓ} (b : Bool) (x y : A) → b ≡ true → elim b [ true ↦ x | false ↦ y ] ≡ x
+case-true true x y e = refl
+case-true false x y e = let z : _≡_ {A = ℕ} 0 1 = cc in absurd (omega arith)
+
+pub case-false {ℓ} : {A : Type ℓ} (b : Bool) (x y : A) → b ≡ false → elim b [ true ↦ x | false ↦ y ] ≡ y
+case-false true x y e = let z : _≡_ {A = ℕ} 0 1 = cc in absurd (omega arith)
+case-false false x y e = refl

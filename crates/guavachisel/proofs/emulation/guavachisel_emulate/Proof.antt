@@ -1,0 +1,59 @@
+-- `guavachisel_emulate` hands over each case of the emulator's answer.
+use denote.Ref.{now}
+use Rattle.guavachisel.proofs.Answers.{ran-emulated, refused-emulated}
+use borrow.Author.Needs.{needs}
+use Rattle.guavachisel.proofs.emulation.guavachisel_emulate.Statement.{statement}
+use Rattle.guavachisel.proofs.emulation.guavachisel_emulate.Tie as tie
+
+loaded-requires : tie.Need-loaded-requires
+loaded-requires c κs = search needs
+
+emulate-requires : tie.Need-emulate-requires
+emulate-requires c κs = search needs
+
+enum-known-m : tie.Need-enum-known-m
+enum-known-m c = search needs
+
+reason-number-requires : tie.Need-reason-number-requires
+reason-number-requires c κs = search needs
+
+enum-known-why : tie.Need-enum-known-why
+enum-known-why c = search needs
+
+refusal-number-requires : tie.Need-refusal-number-requires
+refusal-number-requires c κs = search needs
+
+refusal-place-requires : tie.Need-refusal-place-requires
+refusal-place-requires c κs = search needs
+
+same-length : tie.Need-same-length
+same-length c = search needs
+
+returns : tie.Need-returns
+returns c = let begin = c .before .before .before .before .before .before .before .before .before .before .before .before .before .args in
+    rw (c .before .reason-number .ensures)
+    (ran-emulated (now (begin .memory)) (now (begin .registers)) _ (c .before .before .before .before .before .before .before .before .before .loaded .result) (begin .budget) (c .before .before .before .before .before .before .before .before .emulate .result) (c .before .before .before .before .before .before .before .before .before .loaded .ensures) (c .before .before .before .before .before .before .before .before .emulate .ensures) _ _ _ (c .before .before .before .before .m .given .1))
+
+same-length-2 : tie.Need-same-length-2
+same-length-2 c = search needs
+
+returns-2 : tie.Need-returns-2
+returns-2 c = let begin = c .before .before .before .before .before .before .before .before .before .before .before .before .before .args in
+    rw (c .before .before .refusal-number .ensures, c .before .refusal-place .ensures)
+    (refused-emulated (now (begin .memory)) (now (begin .registers)) _ (c .before .before .before .before .before .before .before .before .before .loaded .result) (begin .budget) (c .before .before .before .before .before .before .before .before .emulate .result) (c .before .before .before .before .before .before .before .before .before .loaded .ensures) (c .before .before .before .before .before .before .before .before .emulate .ensures) _ (c .before .before .before .before .why .given .1))
+
+pub guavachisel-emulate-spec : {M : Type 1} → statement M
+guavachisel-emulate-spec =
+    tie.close
+    (tie.spec
+    loaded-requires
+    emulate-requires
+    enum-known-m
+    reason-number-requires
+    enum-known-why
+    refusal-number-requires
+    refusal-place-requires
+    same-length
+    returns
+    same-length-2
+    returns-2)

@@ -1,5 +1,7 @@
 -- LAC stays within its 13 bits: each change that op 0, op 1, op 3 and op 7 make of it.
 -- Assumes nothing.
+use mathlib.Core.Path.{_≡_, ap}
+use native.Mathlib.Nat.{div-one}
 use Prim.Native.Nat.{ℕ, _+_, _%_, _^_, _<_}
 use native.Mathlib.Omega.{arith}
 use lib.Bits.{bitAnd, bitOr, and-le-r, or-lt}
@@ -9,11 +11,18 @@ use Rattle.word.proofs.Choice.{choose-either}
 use Rattle.word.proofs.Complement.{complement-lt}
 use Rattle.word.proofs.Rotation.{rotatedLeft-lt, rotatedRight-lt}
 use Rattle.pdp8.specs.State.{lacBits, ac, withAc, withoutAc}
-use Rattle.pdp8.specs.Instruction.{flag}
+use Rattle.pdp8.specs.Instruction.{flag, pa}
 use Rattle.pdp8.specs.Operate.{cleared, linkCleared, complemented, linkComplemented, increased, places, turnedLeft, turnedRight, rotated, changed, switched}
 
 abbrev Narrow : ℕ → Type 0
 Narrow lac = lac < 2 ^ lacBits
+
+-- AC and pa stand at the right end of their words
+pub ac-is : (lac : ℕ) → ac lac ≡ lac % 2 ^ wordBits
+ac-is lac = ap (λ (n : ℕ). n % 2 ^ wordBits) (div-one lac)
+
+pub pa-is : (i : ℕ) → pa i ≡ i % 2 ^ 7
+pa-is i = ap (λ (n : ℕ). n % 2 ^ 7) (div-one i)
 
 pub ac-lt : (lac : ℕ) → ac lac < 2 ^ wordBits
 ac-lt lac = omega arith

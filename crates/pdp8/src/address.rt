@@ -1,5 +1,4 @@
 // The address that an instruction of ops 0 to 5 works on.
-use crate::instruction::is_set;
 use crate::memory::load;
 use crate::memory::store;
 ghost use mathlib.Core.Path.{_≡_};
@@ -9,6 +8,11 @@ ghost use Rattle.word.specs.Word.{wordBits, bits};
 ghost use Rattle.state.specs.Acceptable.{Acceptable};
 ghost use Rattle.pdp8.specs.Instruction.{pb};
 ghost use Rattle.pdp8.specs.Address.{address, firstAddress, indexed, Addressed};
+
+// Bit 3, ib, and bit 4, pb.
+const INDIRECT: u64 = 0o400;
+
+const CURRENT: u64 = 0o200;
 
 // One of the 32 pages.
 pub struct PageNumber(pub u64);
@@ -21,15 +25,15 @@ fn joined(page: PageNumber, within: PageAddress) -> u64
     requires { ⌜ page .0 < 2 ^ 5 ⌝ ∗ ⌜ within .0 < 2 ^ 7 ⌝ }
     ensures { λ r. ⌜ r ≡ address (page .0) (within .0) ⌝ }
 {
-    word::joined(7, page.0, within.0)
+    page.0 * 128 + within.0
 }
 
 // The page of an instruction that was fetched from `last`: page 0, or the page of `last` itself.
 fn page(i: u64, last: u64) -> u64
     ensures { λ r. ⌜ r ≡ choose (pb i) (bits wordBits 0 4 last) 0 ⌝ }
 {
-    if is_set(4, i) {
-        word::part(12, 0, 4, last)
+    if i / CURRENT % 2 != 0 {
+        last / 128 % 32
     } else {
         0
     }
@@ -39,10 +43,7 @@ fn page(i: u64, last: u64) -> u64
 fn first_address(i: u64, last: u64) -> u64
     ensures { λ r. ⌜ r ≡ firstAddress i last ⌝ }
 {
-    joined(
-        PageNumber(page(i, last)),
-        PageAddress(word::part(12, 5, 11, i)),
-    )
+    joined(PageNumber(page(i, last)), PageAddress(i % 128))
 }
 
 // Auto-indexing: the word at a first address from 0010 to 0017 is increased.
@@ -62,7 +63,7 @@ pub fn effective_address(memory: &mut [u16], i: u64, last: u64) -> u64
     ensures { λ r. ⌜ Addressed i last (now (memory .entry)) (now (memory .exit)) r ⌝ }
 {
     let first = first_address(i, last);
-    if is_set(3, i) {
+    if i / INDIRECT % 2 != 0 {
         auto_index(memory, first);
         load(memory, first)
     } else {

@@ -1,7 +1,6 @@
 // The PDP-8: 4,096 words of 12 bits and six registers, run step by step to a budget.
 pub mod address;
 pub mod emulate;
-pub mod instruction;
 pub mod interrupt;
 pub mod memory;
 pub mod operate;

@@ -18,7 +18,7 @@ fn and_to(memory: &mut [u16], p: Processor, e: u64) -> Processor
 {
     let word = load(memory, e);
     let mut q = p;
-    q.lac = p.lac / 4096 * 4096 + (word::part(13, 1, 12, p.lac) & word);
+    q.lac = p.lac / 4096 * 4096 + (p.lac % 4096 & word);
     interrupt_test(memory, q)
 }
 
@@ -53,7 +53,7 @@ fn deposit_at(memory: &mut [u16], p: Processor, e: u64) -> Processor
     requires { ⌜ Good (at p (now memory)) ⌝ ∗ ⌜ e < 2 ^ wordBits ⌝ }
     ensures { λ r. ⌜ at r (now (memory .exit)) ≡ interruptTest (deposit e (at p (now (memory .entry)))) ⌝ }
 {
-    store(memory, e, word::part(13, 1, 12, p.lac));
+    store(memory, e, p.lac % 4096);
     let mut q = p;
     q.lac = p.lac / 4096 * 4096;
     interrupt_test(memory, q)
@@ -101,5 +101,5 @@ pub fn refer(memory: &mut [u16], p: Processor, i: u64, last: u64) -> Processor
     ensures { λ r. ⌜ at r (now (memory .exit)) ≡ interruptTest (reference i last (at p (now (memory .entry)))) ⌝ }
 {
     let e = effective_address(memory, i, last);
-    operated(memory, p, word::part(12, 0, 2, i), e)
+    operated(memory, p, i / 512 % 8, e)
 }

@@ -15,7 +15,7 @@ fn executed(memory: &mut [u16], p: Processor, i: u64, last: u64) -> Processor
     requires { ⌜ Good (at p (now memory)) ⌝ ∗ ⌜ i < 2 ^ wordBits ⌝ ∗ ⌜ last < 2 ^ wordBits ⌝ }
     ensures { λ r. ⌜ at r (now (memory .exit)) ≡ execute i last (at p (now (memory .entry))) ⌝ }
 {
-    let op = word::part(12, 0, 2, i);
+    let op = i / 512 % 8;
     if op == 6 {
         return input_output(memory, p, i);
     }

@@ -1,7 +1,8 @@
 -- `address::first_address` joins the two parts that its definition joins.
 use native.Mathlib.Omega.{arith}
-use Rattle.pdp8.proofs.Addresses.{page-lt}
 use Rattle.pdp8.specs.Address.{firstAddress}
+use Rattle.pdp8.proofs.Addresses.{page-lt}
+use Rattle.pdp8.proofs.Accumulator.{pa-is}
 use borrow.Author.Needs.{needs}
 use Rattle.pdp8.proofs.address.first_address.Statement.{statement}
 use Rattle.pdp8.proofs.address.first_address.Tie as tie
@@ -9,15 +10,12 @@ use Rattle.pdp8.proofs.address.first_address.Tie as tie
 page-requires : tie.Need-page-requires
 page-requires c κs = search needs
 
-part-requires : tie.Need-part-requires
-part-requires c κs = search needs
-
 joined-requires : tie.Need-joined-requires
-joined-requires c κs = let h = page-lt (c .before .before .args .i) (c .before .before .args .last) in omega arith
+joined-requires c κs = let h = page-lt (c .before .args .i) (c .before .args .last) in omega arith
 
 returns : tie.Need-returns
 unfolding firstAddress
-returns c = cc
+returns c = simp pa-is (cc)
 
 pub first-address-spec : {M : Type 1} → statement M
-first-address-spec = tie.close (tie.spec page-requires part-requires joined-requires returns)
+first-address-spec = tie.close (tie.spec page-requires joined-requires returns)

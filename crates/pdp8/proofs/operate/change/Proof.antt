@@ -1,6 +1,6 @@
 -- `operate::change` calls what its definition names, in its order; each change keeps LAC within 13 bits.
-use Rattle.pdp8.proofs.Accumulator.{cleared-lt, linkCleared-lt, complemented-lt, linkComplemented-lt}
 use Rattle.pdp8.specs.Operate.{changed}
+use Rattle.pdp8.proofs.Accumulator.{cleared-lt, linkCleared-lt, complemented-lt, linkComplemented-lt}
 use borrow.Author.Needs.{needs}
 use Rattle.pdp8.proofs.operate.change.Statement.{statement}
 use Rattle.pdp8.proofs.operate.change.Tie as tie

@@ -1,19 +1,17 @@
 -- `operate::clear`: the code's test is the definition's.
+use borrow.Author.Tests.{eq-eqb, ne-eqb}
 use borrow.Author.Needs.{needs}
 use Rattle.pdp8.proofs.operate.clear.Statement.{statement}
 use Rattle.pdp8.proofs.operate.clear.Tie as tie
-
-is-set-requires : tie.Need-is-set-requires
-is-set-requires c κs = search needs
 
 mul-result : tie.Need-mul-result
 mul-result c = search needs
 
 returns : tie.Need-returns
-returns c = rw (← c .before .is-set .ensures, c .if1 .taken)
+returns c = simp (ne-eqb _ _ (c .if1 .taken))
 
 returns-2 : tie.Need-returns-2
-returns-2 c = rw (← c .before .is-set .ensures, c .if1 .left)
+returns-2 c = simp (eq-eqb _ _ (c .if1 .left))
 
 pub clear-spec : {M : Type 1} → statement M
-clear-spec = tie.close (tie.spec is-set-requires mul-result returns returns-2)
+clear-spec = tie.close (tie.spec mul-result returns returns-2)

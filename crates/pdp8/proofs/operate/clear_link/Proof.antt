@@ -1,16 +1,13 @@
 -- `operate::clear_link`: the code's test is the definition's.
-use borrow.Author.Needs.{needs}
+use borrow.Author.Tests.{eq-eqb, ne-eqb}
 use Rattle.pdp8.proofs.operate.clear_link.Statement.{statement}
 use Rattle.pdp8.proofs.operate.clear_link.Tie as tie
 
-is-set-requires : tie.Need-is-set-requires
-is-set-requires c κs = search needs
-
 returns : tie.Need-returns
-returns c = rw (← c .before .is-set .ensures, c .if1 .taken)
+returns c = simp (ne-eqb _ _ (c .if1 .taken))
 
 returns-2 : tie.Need-returns-2
-returns-2 c = rw (← c .before .is-set .ensures, c .if1 .left)
+returns-2 c = simp (eq-eqb _ _ (c .if1 .left))
 
 pub clear-link-spec : {M : Type 1} → statement M
-clear-link-spec = tie.close (tie.spec is-set-requires returns returns-2)
+clear-link-spec = tie.close (tie.spec returns returns-2)

@@ -1,19 +1,17 @@
 -- `operate::increase`: the code's test is the definition's.
+use borrow.Author.Tests.{eq-eqb, ne-eqb}
 use borrow.Author.Needs.{needs}
 use Rattle.pdp8.proofs.operate.increase.Statement.{statement}
 use Rattle.pdp8.proofs.operate.increase.Tie as tie
-
-is-set-requires : tie.Need-is-set-requires
-is-set-requires c κs = search needs
 
 add-result : tie.Need-add-result
 add-result c = search needs
 
 returns : tie.Need-returns
-returns c = rw (← c .before .is-set .ensures, c .if1 .taken)
+returns c = simp (ne-eqb _ _ (c .if1 .taken))
 
 returns-2 : tie.Need-returns-2
-returns-2 c = rw (← c .before .is-set .ensures, c .if1 .left)
+returns-2 c = simp (eq-eqb _ _ (c .if1 .left))
 
 pub increase-spec : {M : Type 1} → statement M
-increase-spec = tie.close (tie.spec is-set-requires add-result returns returns-2)
+increase-spec = tie.close (tie.spec add-result returns returns-2)

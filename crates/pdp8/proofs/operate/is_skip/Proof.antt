@@ -1,11 +1,9 @@
 -- `operate::is_skip`: the code's test is the definition's.
+use borrow.Author.Tests.{eq-eqb, ne-eqb}
 use Rattle.pdp8.specs.Operate.{skips}
 use borrow.Author.Needs.{needs}
 use Rattle.pdp8.proofs.operate.is_skip.Statement.{statement}
 use Rattle.pdp8.proofs.operate.is_skip.Tie as tie
-
-is-set-requires : tie.Need-is-set-requires
-is-set-requires c κs = search needs
 
 skips-reversed-requires : tie.Need-skips-reversed-requires
 skips-reversed-requires c κs = search needs
@@ -15,13 +13,11 @@ skips-plain-requires c κs = search needs
 
 returns : tie.Need-returns
 unfolding skips
-returns c = rw (← c .before .before .is-set .ensures, c .before .if1 .taken) (c .skips-reversed .ensures)
+returns c = simp (ne-eqb _ _ (c .before .if1 .taken)) (c .skips-reversed .ensures)
 
 returns-2 : tie.Need-returns-2
 unfolding skips
-returns-2 c = rw (← c .before .before .is-set .ensures, c .before .if1 .left) (c .skips-plain .ensures)
+returns-2 c = simp (eq-eqb _ _ (c .before .if1 .left)) (c .skips-plain .ensures)
 
 pub is-skip-spec : {M : Type 1} → statement M
-is-skip-spec =
-    tie.close
-    (tie.spec is-set-requires skips-reversed-requires skips-plain-requires returns returns-2)
+is-skip-spec = tie.close (tie.spec skips-reversed-requires skips-plain-requires returns returns-2)

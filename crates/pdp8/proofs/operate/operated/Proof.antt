@@ -1,18 +1,14 @@
 -- `operate::operated`: the code's tests are the definition's.
-use borrow.Author.Tests.{not-true, not-false}
+use borrow.Author.Tests.{eq-eqb, ne-eqb}
+use mathlib.Core.Path.{ap}
+use mathlib.Core.Bool.{not}
 use Rattle.pdp8.specs.Operate.{operate}
 use borrow.Author.Needs.{needs}
 use Rattle.pdp8.proofs.operate.operated.Statement.{statement}
 use Rattle.pdp8.proofs.operate.operated.Tie as tie
 
-is-set-requires : tie.Need-is-set-requires
-is-set-requires c κs = search needs
-
 first-group-requires : tie.Need-first-group-requires
 first-group-requires c κs = search needs
-
-is-set-requires-2 : tie.Need-is-set-requires-2
-is-set-requires-2 c κs = search needs
 
 third-group-requires : tie.Need-third-group-requires
 third-group-requires c κs = search needs
@@ -25,32 +21,27 @@ same-length c = search needs
 
 returns : tie.Need-returns
 unfolding operate
-returns c = let first = not-true (c .before .before .before .before .before .is-set .result) (c .before .before .before .before .if1 .taken) in
-    rw (← c .before .before .before .before .before .is-set .ensures, first, operate) (c .before .before .first-group .ensures)
+returns c = rw (ap not (eq-eqb _ _ (c .before .before .before .before .if1 .taken)), operate) (c .before .before .first-group .ensures)
 
 same-length-2 : tie.Need-same-length-2
 same-length-2 c = search needs
 
 returns-2 : tie.Need-returns-2
 unfolding operate
-returns-2 c = let first = not-false (c .before .before .before .before .before .before .before .is-set .result) (c .before .before .before .before .before .before .if1 .left) in
-    rw (← c .before .before .before .before .before .before .before .is-set .ensures, first, ← c .before .before .before .before .before .is-set2 .ensures, c .before .before .before .before .if2 .taken, operate) (c .before .before .third-group .ensures)
+returns-2 c = rw (ap not (ne-eqb _ _ (c .before .before .before .before .before .if1 .left)), ap not (ne-eqb _ _ (c .before .before .before .before .if2 .taken)), operate) (c .before .before .third-group .ensures)
 
 same-length-3 : tie.Need-same-length-3
 same-length-3 c = search needs
 
 returns-3 : tie.Need-returns-3
 unfolding operate
-returns-3 c = let first = not-false (c .before .before .before .before .before .before .before .is-set .result) (c .before .before .before .before .before .before .if1 .left) in
-    rw (← c .before .before .before .before .before .before .before .is-set .ensures, first, ← c .before .before .before .before .before .is-set2 .ensures, c .before .before .before .before .if2 .left, operate) (c .before .before .second-group .ensures)
+returns-3 c = rw (ap not (ne-eqb _ _ (c .before .before .before .before .before .if1 .left)), ap not (eq-eqb _ _ (c .before .before .before .before .if2 .left)), operate) (c .before .before .second-group .ensures)
 
 pub operated-spec : {M : Type 1} → statement M
 operated-spec =
     tie.close
     (tie.spec
-    is-set-requires
     first-group-requires
-    is-set-requires-2
     third-group-requires
     second-group-requires
     same-length

@@ -1,6 +1,6 @@
 -- `operate::second_group`: the skip, the clear, the switches and the halt, then the interrupt test.
-use Prim.Native.Nat.{ℕ, _^_, _<_}
 use native.Mathlib.Omega.{arith}
+use Prim.Native.Nat.{ℕ, _^_, _<_}
 use Rattle.word.proofs.Choice.{pick-either}
 use Rattle.pdp8.specs.Operate.{skips, group2}
 use Rattle.pdp8.proofs.Accumulator.{cleared-lt}

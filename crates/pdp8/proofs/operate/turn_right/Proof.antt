@@ -1,14 +1,8 @@
 -- `operate::turn_right`: the code's tests are the definition's.
-use borrow.Author.Tests.{not-true, not-false}
+use borrow.Author.Tests.{eq-eqb, ne-eqb}
 use borrow.Author.Needs.{needs}
 use Rattle.pdp8.proofs.operate.turn_right.Statement.{statement}
 use Rattle.pdp8.proofs.operate.turn_right.Tie as tie
-
-is-set-requires : tie.Need-is-set-requires
-is-set-requires c κs = search needs
-
-is-set-requires-2 : tie.Need-is-set-requires-2
-is-set-requires-2 c κs = search needs
 
 rotated-right-requires : tie.Need-rotated-right-requires
 rotated-right-requires c κs = search needs
@@ -17,24 +11,15 @@ rotated-right-requires-2 : tie.Need-rotated-right-requires-2
 rotated-right-requires-2 c κs = search needs
 
 returns : tie.Need-returns
-returns c = let first = not-true (c .before .is-set .result) (c .if1 .taken) in rw (← c .before .is-set .ensures, first)
+returns c = simp (eq-eqb _ _ (c .if1 .taken))
 
 returns-2 : tie.Need-returns-2
-returns-2 c = let first = not-false (c .before .before .before .before .is-set .result) (c .before .before .before .if1 .left) in
-    rw (← c .before .before .before .before .is-set .ensures, first, ← c .before .before .is-set2 .ensures, c .before .if2 .taken) (c .rotated-right .ensures)
+returns-2 c = simp (ne-eqb _ _ (c .before .before .if1 .left), ne-eqb _ _ (c .before .if2 .taken)) (c .rotated-right .ensures)
 
 returns-3 : tie.Need-returns-3
-returns-3 c = let first = not-false (c .before .before .before .before .is-set .result) (c .before .before .before .if1 .left) in
-    rw (← c .before .before .before .before .is-set .ensures, first, ← c .before .before .is-set2 .ensures, c .before .if2 .left) (c .rotated-right2 .ensures)
+returns-3 c = simp (ne-eqb _ _ (c .before .before .if1 .left), eq-eqb _ _ (c .before .if2 .left)) (c .rotated-right2 .ensures)
 
 pub turn-right-spec : {M : Type 1} → statement M
 turn-right-spec =
     tie.close
-    (tie.spec
-    is-set-requires
-    is-set-requires-2
-    rotated-right-requires
-    rotated-right-requires-2
-    returns
-    returns-2
-    returns-3)
+    (tie.spec rotated-right-requires rotated-right-requires-2 returns returns-2 returns-3)

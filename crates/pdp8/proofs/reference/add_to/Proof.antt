@@ -8,8 +8,7 @@ load-requires : tie.Need-load-requires
 load-requires c κs = search needs
 
 add-q : tie.Need-add-q
-add-q c = let start = c .before .before .before .before in
-    omega (arith, start .pre .0 .lac, start .pre .0 .memory .words (start .args .e), c .before .load .ensures)
+add-q c = let start = c .before .before .before .before in omega (arith, start .pre .0 .lac, start .pre .0 .memory .words (start .args .e), c .before .load .ensures)
 
 interrupt-test-requires : tie.Need-interrupt-test-requires
 interrupt-test-requires c κs = search needs

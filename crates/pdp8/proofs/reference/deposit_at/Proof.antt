@@ -1,10 +1,8 @@
 -- `reference::deposit_at` is its operation, then the interrupt test.
+use Rattle.pdp8.proofs.Accumulator.{ac-is}
 use borrow.Author.Needs.{needs}
 use Rattle.pdp8.proofs.reference.deposit_at.Statement.{statement}
 use Rattle.pdp8.proofs.reference.deposit_at.Tie as tie
-
-part-requires : tie.Need-part-requires
-part-requires c κs = search needs
 
 store-requires : tie.Need-store-requires
 store-requires c κs = search needs
@@ -19,9 +17,8 @@ same-length : tie.Need-same-length
 same-length c = search needs
 
 returns : tie.Need-returns
-returns c = cc
+returns c = simp ac-is (cc)
 
 pub deposit-at-spec : {M : Type 1} → statement M
 deposit-at-spec =
-    tie.close
-    (tie.spec part-requires store-requires mul-q interrupt-test-requires same-length returns)
+    tie.close (tie.spec store-requires mul-q interrupt-test-requires same-length returns)

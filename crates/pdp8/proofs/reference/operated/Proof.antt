@@ -28,7 +28,7 @@ same-length c = search needs
 
 returns : tie.Need-returns
 unfolding operation
-returns c = rw (c .before .before .before .before .match .keys1, operation) (c .before .before .and-to .ensures)
+returns c = simp (c .before .before .before .before .match .keys1) (cc)
 
 same-length-2 : tie.Need-same-length-2
 same-length-2 c = search needs

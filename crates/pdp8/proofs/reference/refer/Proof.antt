@@ -1,8 +1,4 @@
 -- `reference::refer`: the address is worked out once, and the operation has it and the memory that it left.
-use Prim.Native.Nat.{ℕ, _^_, _<_}
-use mathlib.Core.List.{List}
-use Rattle.pdp8.specs.State.{Good, at}
-use mathlib.Core.Path.{subst, sym}
 use Rattle.pdp8.specs.Reference.{reference}
 use Rattle.pdp8.proofs.Addresses.{effective-lt}
 use Rattle.pdp8.proofs.Keeps.{indexing-good}
@@ -13,12 +9,9 @@ use Rattle.pdp8.proofs.reference.refer.Tie as tie
 effective-address-requires : tie.Need-effective-address-requires
 effective-address-requires c κs = search needs
 
-part-requires : tie.Need-part-requires
-part-requires c κs = search needs
-
 operated-requires : tie.Need-operated-requires
-operated-requires c κs = let start = c .before .before .before .before .before .before .before in
-    let found = c .before .before .before .before .effective-address .ensures in (
+operated-requires c κs = let start = c .before .before .before .before .before .before in
+    let found = c .before .before .before .effective-address .ensures in (
       rw (found .memory) (indexing-good (start .args .i) (start .args .last) (start .pre .0)),
       rw (found .address) (effective-lt (start .args .i) (start .args .last) (start .pre .0 .memory)),
     )
@@ -31,6 +24,4 @@ unfolding reference
 returns c = cc
 
 pub refer-spec : {M : Type 1} → statement M
-refer-spec =
-    tie.close
-    (tie.spec effective-address-requires part-requires operated-requires same-length returns)
+refer-spec = tie.close (tie.spec effective-address-requires operated-requires same-length returns)

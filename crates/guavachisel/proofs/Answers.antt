@@ -10,10 +10,10 @@ use Rattle.state.specs.Refusals.{numberOf, placeOf, reasonNumber}
 use Rattle.state.specs.declared.Reason.{Reason}
 use Rattle.state.specs.declared.Refusal.{Refusal}
 use Rattle.state.specs.declared.Refusal.the-variants.{MemoryLength, Word, Register, Budget, RowList}
-use Rattle.pdp8.specs.declared.Machine.{Machine}
+use Rattle.machine.specs.declared.Machine.{Machine}
 use Rattle.pdp8.specs.declared.Answer.{Answer}
 use Rattle.pdp8.specs.declared.Answer.the-variants.{Ran, Refused}
-use Rattle.pdp8.specs.State.{values}
+use Rattle.machine.specs.State.{values}
 use Rattle.pdp8.specs.Emulate.{Report, report, refused, emulate}
 use Rattle.guavachisel.specs.Emulation.{machineOf, outcomeOf, Emulated}
 

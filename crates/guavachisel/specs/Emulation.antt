@@ -5,8 +5,8 @@ use mathlib.Core.List.{List, [], _∷_}
 use Prim.Native.Nat.{ℕ}
 use lib.ListN.{getD}
 use Rattle.word.specs.Choice.{choose}
-use Rattle.pdp8.specs.declared.Machine.{Machine}
-use Rattle.pdp8.specs.State.{values}
+use Rattle.machine.specs.declared.Machine.{Machine}
+use Rattle.machine.specs.State.{values}
 use Rattle.pdp8.specs.Emulate.{Report, emulate}
 
 -- "registers: LAC, PC, RUN, INTERRUPT.ENABLE, INTERRUPT.REQUEST, SWITCHES"

@@ -1,8 +1,8 @@
 // The emulator for C callers: guavachisel_emulate of include/guavachisel.h.
+use machine::Machine;
 use pdp8::Answer;
-use pdp8::Machine;
 ghost use mathlib.Core.Path.{_≡_};
-ghost use Rattle.pdp8.specs.State.{values};
+ghost use Rattle.machine.specs.State.{values};
 ghost use Rattle.guavachisel.specs.Emulation.{Emulated};
 
 // The registers in a caller's array.

@@ -13,8 +13,8 @@ use Rattle.state.specs.Checks.{checkMemory, checkRegisters, checkBudget}
 use Rattle.state.specs.Acceptable.{Fitting}
 use Rattle.state.specs.declared.Verdict.the-variants.{Fit}
 use Rattle.state.proofs.Accepted.{memory-acceptable, acceptable-memory, registers-fitting, fitting-registers, within-budget, both-fit}
-use Rattle.pdp8.specs.declared.Machine.{Machine}
-use Rattle.pdp8.specs.State.{widths, values, start, Good}
+use Rattle.machine.specs.declared.Machine.{Machine}
+use Rattle.machine.specs.State.{widths, values, start, Good}
 use Rattle.pdp8.specs.Emulate.{check}
 
 -- no register is wider than 16 bits

@@ -1,5 +1,3 @@
-pub mod Addresses
-pub mod Accumulator
 pub mod Checked
 pub mod Keeps
 pub mod Marked

@@ -2,12 +2,12 @@
 -- Assumes nothing.
 use mathlib.Core.Path.{_≡_, refl}
 use mathlib.Core.List.{List, map}
-use Rattle.pdp8.specs.State.{State}
+use Rattle.machine.specs.State.{State}
 use Rattle.pdp8.specs.Step.{execute, step}
-use Rattle.pdp8.specs.Address.{firstAddress, indexed, effective, afterIndexing}
-use Rattle.pdp8.specs.Reference.{operation, reference}
-use Rattle.pdp8.specs.Operate.{changed, rotated, skips, group1, group2, group3, operate}
-use Rattle.pdp8.specs.Interrupt.{interruptTest, inputOutput}
+use Rattle.reference.specs.Address.{firstAddress, indexed, effective, afterIndexing}
+use Rattle.reference.specs.Reference.{operation, reference}
+use Rattle.operate.specs.Operate.{changed, rotated, skips, group1, group2, group3, operate}
+use Rattle.machine.specs.Interrupt.{interruptTest, inputOutput}
 use Rattle.pdp8.specs.Marked.{Mark, marked, ready, imageL, requested}
 
 pub marked-steps : map (λ (m : Mark). step (m .before)) marked ≡ map (λ (m : Mark). m .after) marked

@@ -11,7 +11,7 @@ use Rattle.word.specs.Choice.{on, pick}
 use Rattle.word.proofs.Choice.{case-true, case-false}
 use Rattle.state.specs.declared.Reason.{Reason}
 use Rattle.state.specs.declared.Reason.the-variants.{Halted, Spent}
-use Rattle.pdp8.specs.State.{State, Good}
+use Rattle.machine.specs.State.{State, Good}
 use Rattle.pdp8.specs.Step.{step}
 use Rattle.pdp8.specs.Run.{Run, reasonOf, ended, runFrom, run, after, following}
 use Rattle.pdp8.proofs.Keeps.{step-good}

@@ -1,9 +1,3 @@
-pub mod State
-pub mod Instruction
-pub mod Address
-pub mod Reference
-pub mod Operate
-pub mod Interrupt
 pub mod Step
 pub mod Run
 pub mod Emulate

@@ -5,7 +5,7 @@ use mathlib.Core.List.{List, [], _∷_}
 use Prim.Native.Nat.{ℕ}
 use lib.ListN.{set, replicate}
 use Rattle.state.specs.Limits.{memoryWords}
-use Rattle.pdp8.specs.State.{State, withLac, withPc, withRun, withEnable, stored}
+use Rattle.machine.specs.State.{State, withLac, withPc, withRun, withEnable, stored}
 
 pub record Mark : Type 0 where
   pub before : State

@@ -5,7 +5,7 @@ use mathlib.Core.Bool.{true, false}
 use Rattle.word.specs.Choice.{on, choose}
 use Rattle.state.specs.declared.Reason.{Reason}
 use Rattle.state.specs.declared.Reason.the-variants.{Halted, Spent}
-use Rattle.pdp8.specs.State.{State}
+use Rattle.machine.specs.State.{State}
 use Rattle.pdp8.specs.Step.{step}
 
 -- what a run leaves and reports

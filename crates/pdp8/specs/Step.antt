@@ -4,11 +4,11 @@ use Prim.Native.Nat.{ℕ}
 use mathlib.Core.Bool.{true, false}
 use lib.Dec.{eqb}
 use Rattle.word.specs.Word.{next}
-use Rattle.pdp8.specs.State.{State, word, withPc}
-use Rattle.pdp8.specs.Instruction.{op}
-use Rattle.pdp8.specs.Reference.{reference}
-use Rattle.pdp8.specs.Operate.{operate}
-use Rattle.pdp8.specs.Interrupt.{interruptTest, inputOutput}
+use Rattle.machine.specs.State.{State, word, withPc}
+use Rattle.machine.specs.Instruction.{op}
+use Rattle.reference.specs.Reference.{reference}
+use Rattle.operate.specs.Operate.{operate}
+use Rattle.machine.specs.Interrupt.{interruptTest, inputOutput}
 
 -- the instruction i that was fetched from `last`, by its op, and the interrupt test, which op 6 may omit
 unfoldable pub execute : ℕ → ℕ → State → State

@@ -1,15 +1,15 @@
 // The emulator's entry: any memory, registers and budget.
 use crate::Answer;
-use crate::Machine;
-use crate::Processor;
 use crate::run;
+use machine::Machine;
+use machine::Processor;
 use state::Reason;
 use state::Verdict;
 ghost use mathlib.Core.Path.{_≡_};
 ghost use Rattle.word.specs.Choice.{choose};
 ghost use Rattle.state.specs.Checks.{checkRegisters};
 ghost use Rattle.state.specs.declared.Reason.the-variants.{Halted, Spent};
-ghost use Rattle.pdp8.specs.State.{start, values, widths, narrowed, Narrow, Good};
+ghost use Rattle.machine.specs.State.{start, values, widths, narrowed, Narrow, Good};
 ghost use Rattle.pdp8.specs.Run.{run};
 ghost use Rattle.pdp8.specs.Emulate.{report, check, finished as finishedRun, emulate as emulation};
 

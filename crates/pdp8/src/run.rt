@@ -1,8 +1,8 @@
 // A run: steps while RUN is 1 and fewer than the budget are done.
-use crate::Processor;
 use crate::step::step;
+use machine::Processor;
 ghost use mathlib.Core.Path.{_≡_};
-ghost use Rattle.pdp8.specs.State.{at, Good};
+ghost use Rattle.machine.specs.State.{at, Good};
 ghost use Rattle.pdp8.specs.Run.{ended, run as runOf};
 
 // The registers that a run leaves, and its steps.

@@ -1,13 +1,13 @@
 // One step: fetch, execute, interrupt test.
-use crate::Processor;
-use crate::interrupt::input_output;
-use crate::memory::load;
-use crate::operate::operated;
-use crate::reference::refer;
+use machine::Processor;
+use machine::interrupt::input_output;
+use machine::memory::load;
+use operate::operated;
+use reference::refer;
 ghost use mathlib.Core.Path.{_≡_};
 ghost use Prim.Native.Nat.{_^_, _<_};
 ghost use Rattle.word.specs.Word.{wordBits};
-ghost use Rattle.pdp8.specs.State.{at, Good};
+ghost use Rattle.machine.specs.State.{at, Good};
 ghost use Rattle.pdp8.specs.Step.{execute, step as stepOf};
 
 // The instruction i that was fetched from `last`, by its op.

@@ -1,5 +1,6 @@
 pub mod Choice
 pub mod Complement
+pub mod Next
 pub mod Parts
 pub mod Rotation
 pub mod Small

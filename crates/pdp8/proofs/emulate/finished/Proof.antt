@@ -1,11 +1,11 @@
 -- `emulate::finished`: the run starts from the caller's registers and ends narrow, so that they can be handed back.
 use mathlib.Core.Path.{sym, ap, _∙_, subst}
 use denote.Ref.{now}
-use Rattle.pdp8.specs.declared.Machine.{Machine}
-use Rattle.pdp8.specs.State.{State, start, Good}
+use Rattle.machine.specs.declared.Machine.{Machine}
+use Rattle.machine.specs.State.{State, start, Good}
 use Rattle.pdp8.specs.Run.{Run, run}
 use Rattle.pdp8.specs.Emulate.{finished}
-use Rattle.pdp8.proofs.Keeps.{good-narrow}
+use Rattle.machine.proofs.Keeps.{good-narrow}
 use Rattle.pdp8.proofs.Runs.{run-good}
 use borrow.Author.Needs.{needs}
 use Rattle.pdp8.proofs.emulate.finished.Statement.{statement}

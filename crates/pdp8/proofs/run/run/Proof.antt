@@ -6,7 +6,7 @@ use native.Mathlib.Omega.{arith}
 use mathlib.Core.Path.{_≡_, refl, sym, ap, _∙_, subst}
 use Prim.Native.Nat.{_+_, _-_, _≤_}
 use lib.ListN.{length}
-use Rattle.pdp8.specs.State.{State, at, Good}
+use Rattle.machine.specs.State.{State, at, Good}
 use Rattle.pdp8.specs.Run.{runFrom, run}
 use Rattle.pdp8.proofs.Keeps.{step-good}
 use Rattle.pdp8.proofs.Runs.{run-on, run-halted, run-spent}

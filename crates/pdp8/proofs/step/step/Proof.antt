@@ -1,8 +1,8 @@
 -- `step::step` fetches, increases PC and executes.
 use Prim.Native.Nat.{ℕ}
 use Rattle.pdp8.specs.Step.{step}
-use Rattle.pdp8.proofs.Keeps.{pc-good}
-use Rattle.pdp8.proofs.Addresses.{next-lt}
+use Rattle.machine.proofs.Keeps.{pc-good}
+use Rattle.word.proofs.Next.{next-lt}
 use borrow.Author.Needs.{needs}
 use Rattle.pdp8.proofs.step.step.Statement.{statement}
 use Rattle.pdp8.proofs.step.step.Tie as tie

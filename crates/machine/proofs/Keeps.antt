@@ -1,0 +1,61 @@
+-- "a step keeps words and registers within their widths": shown here of a change of one register or word, of the interrupt test and of
+-- op 6. The other ops are shown beside their definitions.
+-- Assumes nothing.
+use mathlib.Core.List.{List}
+use mathlib.Core.Bool.{Bool, true, false, _&&_}
+use Prim.Native.Nat.{ℕ, _^_, _<_}
+use lib.Dec.{eqb, lit<}
+use Rattle.word.specs.Choice.{on}
+use Rattle.word.specs.Word.{wordBits}
+use Rattle.state.proofs.Accepted.{store-acceptable}
+use Rattle.machine.specs.declared.Processor.{Processor}
+use Rattle.machine.specs.State.{State, at, Good, Narrow, stored, withLac, withPc, withRun, withEnable, lacBits}
+use Rattle.machine.specs.Interrupt.{interruptTest, inputOutput, ion, iof}
+
+pub lac-good : {s : State} {x : ℕ} → x < 2 ^ lacBits → Good s → Good (withLac x s)
+lac-good h g =
+    record { lac = h; pc = g .pc; run = g .run; enable = g .enable; request = g .request; switches = g .switches; memory = g .memory }
+
+pub pc-good : {s : State} {x : ℕ} → x < 2 ^ wordBits → Good s → Good (withPc x s)
+pc-good h g =
+    record { lac = g .lac; pc = h; run = g .run; enable = g .enable; request = g .request; switches = g .switches; memory = g .memory }
+
+pub run-good : {s : State} {x : ℕ} → x < 2 → Good s → Good (withRun x s)
+run-good h g =
+    record { lac = g .lac; pc = g .pc; run = h; enable = g .enable; request = g .request; switches = g .switches; memory = g .memory }
+
+pub enable-good : {s : State} {x : ℕ} → x < 2 → Good s → Good (withEnable x s)
+enable-good h g =
+    record { lac = g .lac; pc = g .pc; run = g .run; enable = h; request = g .request; switches = g .switches; memory = g .memory }
+
+pub stored-good : {s : State} (a : ℕ) {x : ℕ} → x < 2 ^ wordBits → Good s → Good (stored a x s)
+stored-good a h g =
+    record {
+      lac = g .lac;
+      pc = g .pc;
+      run = g .run;
+      enable = g .enable;
+      request = g .request;
+      switches = g .switches;
+      memory = store-acceptable a h (g .memory);
+    }
+
+-- a case by a test is good where both of its ways are
+pub either : (b : Bool) {s t : State} → Good s → Good t → Good (elim b [ true ↦ s | false ↦ t ])
+either true g h = g
+either false g h = h
+
+pub interrupt-good : {s : State} → Good s → Good (interruptTest s)
+unfolding interruptTest
+interrupt-good {s} g =
+    either (on (s .enable) && on (s .request)) (enable-good (lit< tt) (pc-good (lit< tt) (stored-good 0 (g .pc) g))) g
+
+pub inputOutput-good : (i : ℕ) {s : State} → Good s → Good (inputOutput i s)
+unfolding inputOutput
+inputOutput-good i g =
+    either (eqb i ion) (enable-good (lit< tt) g) (interrupt-good (either (eqb i iof) (enable-good (lit< tt) g) g))
+
+-- the registers of a good state
+pub good-narrow : {p : Processor} {memory : List ℕ} → Good (at p memory) → Narrow p
+good-narrow g =
+    record { lac = g .lac; pc = g .pc; run = g .run; enable = g .enable; request = g .request; switches = g .switches }

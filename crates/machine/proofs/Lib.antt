@@ -1,0 +1,2 @@
+pub mod Lac
+pub mod Keeps

@@ -1,0 +1,111 @@
+-- The state of the machine: its six registers and memory; the parts of LAC; and what a state is that keeps every width.
+-- Assumes nothing.
+use mathlib.Core.List.{List, [], _∷_}
+use Prim.Native.Nat.{ℕ, _+_, _*_, _/_, _%_, _^_, _<_}
+use lib.ListN.{getD, set}
+use Rattle.word.specs.Word.{wordBits, bits}
+use Rattle.state.specs.Acceptable.{Acceptable}
+use Rattle.machine.specs.declared.Machine.{Machine}
+use Rattle.machine.specs.declared.Processor.{Processor}
+
+-- "Memory M: 4,096 words of 12 bits. Machine registers, in this order ..: LAC (13 bits; L is its bit 0, AC its bits 1 to 12), PC (12),
+-- RUN (1), INTERRUPT.ENABLE (1), INTERRUPT.REQUEST (1), SWITCHES (12)"
+pub record State : Type 0 where
+  pub lac : ℕ
+  pub pc : ℕ
+  pub run : ℕ
+  pub enable : ℕ
+  pub request : ℕ
+  pub switches : ℕ
+  pub memory : List ℕ
+
+-- the width of LAC
+abbrev pub lacBits : ℕ
+lacBits = 13
+
+-- the widths of the machine registers, in their order
+abbrev pub widths : List ℕ
+widths = lacBits ∷ wordBits ∷ 1 ∷ 1 ∷ 1 ∷ wordBits ∷ []
+
+-- and the values, of the registers as a caller hands them over
+abbrev pub values : Machine → List ℕ
+values m = m .lac ∷ m .pc ∷ m .run ∷ m .enable ∷ m .request ∷ m .switches ∷ []
+
+-- the state that a caller's registers and memory make
+abbrev pub start : Machine → List ℕ → State
+start m memory =
+    record { lac = m .lac; pc = m .pc; run = m .run; enable = m .enable; request = m .request; switches = m .switches; memory = memory }
+
+-- the registers that the emulator works with, as a caller's
+abbrev pub narrowed : Processor → Machine
+narrowed p = record { lac = p .lac; pc = p .pc; run = p .run; enable = p .enable; request = p .request; switches = p .switches }
+
+-- the state that they and memory make
+abbrev pub at : Processor → List ℕ → State
+at p memory =
+    record { lac = p .lac; pc = p .pc; run = p .run; enable = p .enable; request = p .request; switches = p .switches; memory = memory }
+
+-- the registers of a state, as a caller gets them back
+abbrev pub registers : State → Machine
+registers s = record { lac = s .lac; pc = s .pc; run = s .run; enable = s .enable; request = s .request; switches = s .switches }
+
+-- a state with another LAC, PC, RUN, INTERRUPT.ENABLE or memory
+abbrev pub withLac : ℕ → State → State
+withLac x s =
+    record { lac = x; pc = s .pc; run = s .run; enable = s .enable; request = s .request; switches = s .switches; memory = s .memory }
+
+abbrev pub withPc : ℕ → State → State
+withPc x s =
+    record { lac = s .lac; pc = x; run = s .run; enable = s .enable; request = s .request; switches = s .switches; memory = s .memory }
+
+abbrev pub withRun : ℕ → State → State
+withRun x s =
+    record { lac = s .lac; pc = s .pc; run = x; enable = s .enable; request = s .request; switches = s .switches; memory = s .memory }
+
+abbrev pub withEnable : ℕ → State → State
+withEnable x s =
+    record { lac = s .lac; pc = s .pc; run = s .run; enable = x; request = s .request; switches = s .switches; memory = s .memory }
+
+abbrev pub withMemory : List ℕ → State → State
+withMemory x s =
+    record { lac = s .lac; pc = s .pc; run = s .run; enable = s .enable; request = s .request; switches = s .switches; memory = x }
+
+-- M[a], and a state with x stored there
+abbrev pub word : ℕ → State → ℕ
+word a s = getD (s .memory) a 0
+
+abbrev pub stored : ℕ → ℕ → State → State
+stored a x s = withMemory (set (s .memory) a x) s
+
+-- L and AC of a LAC
+abbrev pub link : ℕ → ℕ
+link lac = bits lacBits 0 0 lac
+
+abbrev pub ac : ℕ → ℕ
+ac lac = bits lacBits 1 12 lac
+
+-- LAC with AC cleared, and with x as AC
+abbrev pub withoutAc : ℕ → ℕ
+withoutAc lac = lac / 2 ^ wordBits * 2 ^ wordBits
+
+abbrev pub withAc : ℕ → ℕ → ℕ
+withAc lac x = withoutAc lac + x
+
+-- every register and every word fits
+pub record Good (s : State) : Type 0 where
+  pub lac : s .lac < 2 ^ lacBits
+  pub pc : s .pc < 2 ^ wordBits
+  pub run : s .run < 2
+  pub enable : s .enable < 2
+  pub request : s .request < 2
+  pub switches : s .switches < 2 ^ wordBits
+  pub memory : Acceptable (s .memory)
+
+-- of the registers that the emulator works with alone: each fits its width
+pub record Narrow (p : Processor) : Type 0 where
+  pub lac : p .lac < 2 ^ lacBits
+  pub pc : p .pc < 2 ^ wordBits
+  pub run : p .run < 2
+  pub enable : p .enable < 2
+  pub request : p .request < 2
+  pub switches : p .switches < 2 ^ wordBits

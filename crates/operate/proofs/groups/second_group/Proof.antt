@@ -1,0 +1,47 @@
+-- `operate::second_group`: the skip, the clear, the switches and the halt, then the interrupt test.
+use native.Mathlib.Omega.{arith}
+use Prim.Native.Nat.{ℕ, _^_, _<_}
+use Rattle.word.proofs.Choice.{pick-either}
+use Rattle.operate.specs.Operate.{skips, group2}
+use Rattle.operate.proofs.Changes.{cleared-lt}
+use Rattle.word.proofs.Next.{next-lt}
+use borrow.Author.Needs.{needs}
+use Rattle.operate.proofs.groups.second_group.Statement.{statement}
+use Rattle.operate.proofs.groups.second_group.Tie as tie
+
+skip-requires : tie.Need-skip-requires
+skip-requires c κs = search needs
+
+clear-requires : tie.Need-clear-requires
+clear-requires c κs = search needs
+
+or-switches-requires : tie.Need-or-switches-requires
+or-switches-requires c κs = let start = c .before .before .before in (rw (c .clear .ensures) (cleared-lt (start .args .i) (start .pre .lac)), start .pre .switches)
+
+halt-requires : tie.Need-halt-requires
+halt-requires c κs = search needs
+
+interrupt-test-requires : tie.Need-interrupt-test-requires
+interrupt-test-requires c κs = let start = c .before .before .before .before .before .before in (
+  omega (arith, start .pre .memory .size),
+  rw (c .before .before .before .before .skip .ensures) (pick-either (λ (n : ℕ). n < 2 ^ 12) (skips (start .args .i) (start .args .p .lac)) (next-lt (start .args .p .pc)) (start .pre .pc)),
+)
+
+same-length : tie.Need-same-length
+same-length c = search needs
+
+returns : tie.Need-returns
+unfolding group2
+returns c = cc
+
+pub second-group-spec : {M : Type 1} → statement M
+second-group-spec =
+    tie.close
+    (tie.spec
+    skip-requires
+    clear-requires
+    or-switches-requires
+    halt-requires
+    interrupt-test-requires
+    same-length
+    returns)

@@ -1,0 +1,21 @@
+-- `operate::third_group` clears, then makes the interrupt test.
+use Rattle.operate.specs.Operate.{group3}
+use borrow.Author.Needs.{needs}
+use Rattle.operate.proofs.groups.third_group.Statement.{statement}
+use Rattle.operate.proofs.groups.third_group.Tie as tie
+
+clear-requires : tie.Need-clear-requires
+clear-requires c κs = search needs
+
+interrupt-test-requires : tie.Need-interrupt-test-requires
+interrupt-test-requires c κs = search needs
+
+same-length : tie.Need-same-length
+same-length c = search needs
+
+returns : tie.Need-returns
+unfolding group3
+returns c = cc
+
+pub third-group-spec : {M : Type 1} → statement M
+third-group-spec = tie.close (tie.spec clear-requires interrupt-test-requires same-length returns)

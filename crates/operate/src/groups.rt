@@ -1,0 +1,71 @@
+// The three groups, each with the step's interrupt test at its end.
+use crate::accumulator::change;
+use crate::accumulator::clear;
+use crate::rotate::turn_left;
+use crate::rotate::turn_right;
+use crate::skip::skip;
+use machine::Processor;
+use machine::interrupt::interrupt_test;
+ghost use mathlib.Core.Path.{_≡_};
+ghost use Prim.Native.Nat.{_^_, _<_};
+ghost use Rattle.word.specs.Choice.{choose};
+ghost use Rattle.word.specs.Word.{wordBits};
+ghost use Rattle.machine.specs.Instruction.{flag};
+ghost use Rattle.machine.specs.State.{at, lacBits, Good};
+ghost use Rattle.machine.specs.Interrupt.{interruptTest};
+ghost use Rattle.operate.specs.Operate.{group1, switched, group2, group3};
+
+const OSR: u64 = 0o4;
+
+const HLT: u64 = 0o2;
+
+// Bit 9 ors SWITCHES into AC.
+fn or_switches(i: u64, switches: u64, lac: u64) -> u64
+    requires { ⌜ lac < 2 ^ lacBits ⌝ ∗ ⌜ switches < 2 ^ wordBits ⌝ }
+    ensures { λ r. ⌜ r ≡ switched i switches lac ⌝ }
+{
+    if i / OSR % 2 != 0 {
+        lac / 4096 * 4096 + (lac % 4096 | switches)
+    } else {
+        lac
+    }
+}
+
+// Bit 10 sets RUN to 0.
+fn halt(i: u64, run: u64) -> u64
+    ensures { λ r. ⌜ r ≡ choose (flag 10 i) 0 run ⌝ }
+{
+    if i / HLT % 2 != 0 { 0 } else { run }
+}
+
+// Op 7, bit 3 = 0.
+pub fn first_group(memory: &mut [u16], p: Processor, i: u64) -> Processor
+    requires { ⌜ Good (at p (now memory)) ⌝ }
+    ensures { λ r. ⌜ at r (now (memory .exit)) ≡ interruptTest (group1 i (at p (now (memory .entry)))) ⌝ }
+{
+    let mut q = p;
+    q.lac = turn_right(i, turn_left(i, change(i, p.lac)));
+    interrupt_test(memory, q)
+}
+
+// Op 7, bit 3 = 1, bit 11 = 0.
+pub fn second_group(memory: &mut [u16], p: Processor, i: u64) -> Processor
+    requires { ⌜ Good (at p (now memory)) ⌝ }
+    ensures { λ r. ⌜ at r (now (memory .exit)) ≡ interruptTest (group2 i (at p (now (memory .entry)))) ⌝ }
+{
+    let mut q = p;
+    q.pc = skip(i, p.lac, p.pc);
+    q.lac = or_switches(i, p.switches, clear(i, p.lac));
+    q.run = halt(i, p.run);
+    interrupt_test(memory, q)
+}
+
+// Op 7, bit 3 = 1, bit 11 = 1.
+pub fn third_group(memory: &mut [u16], p: Processor, i: u64) -> Processor
+    requires { ⌜ Good (at p (now memory)) ⌝ }
+    ensures { λ r. ⌜ at r (now (memory .exit)) ≡ interruptTest (group3 i (at p (now (memory .entry)))) ⌝ }
+{
+    let mut q = p;
+    q.lac = clear(i, p.lac);
+    interrupt_test(memory, q)
+}

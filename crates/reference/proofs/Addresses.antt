@@ -1,0 +1,44 @@
+-- Addresses stay within memory, and working one out leaves memory acceptable.
+-- Assumes nothing.
+use mathlib.Core.List.{List}
+use mathlib.Core.Path.{_≡_, ap}
+use Prim.Native.Nat.{ℕ, _/_, _%_, _^_, _<_}
+use native.Mathlib.Nat.{div-one}
+use native.Mathlib.Omega.{arith}
+use lib.Dec.{eqb}
+use lib.ListN.{getD, set}
+use Rattle.word.specs.Word.{wordBits, bits, next}
+use Rattle.word.specs.Choice.{choose}
+use Rattle.word.proofs.Choice.{pick-either, choose-either}
+use Rattle.word.proofs.Next.{next-lt}
+use Rattle.state.specs.Acceptable.{Acceptable}
+use Rattle.state.proofs.Accepted.{store-acceptable}
+use Rattle.machine.specs.Instruction.{ib, pb, pa}
+use Rattle.reference.specs.Address.{firstAddress, indexed, effective, afterIndexing}
+
+-- pa stands at the right end of the instruction
+pub pa-is : (i : ℕ) → pa i ≡ i % 2 ^ 7
+pa-is i = ap (λ (n : ℕ). n % 2 ^ 7) (div-one i)
+
+pub page-lt : (i last : ℕ) → choose (pb i) (bits wordBits 0 4 last) 0 < 2 ^ 5
+page-lt i last = choose-either (λ (n : ℕ). n < 2 ^ 5) (pb i) (omega arith) (omega arith)
+
+pub firstAddress-lt : (i last : ℕ) → firstAddress i last < 2 ^ wordBits
+unfolding firstAddress
+firstAddress-lt i last = let h = page-lt i last in omega arith
+
+pub indexed-acceptable : (a : ℕ) {memory : List ℕ} → Acceptable memory → Acceptable (indexed a memory)
+unfolding indexed
+indexed-acceptable a {memory} m =
+    pick-either Acceptable (eqb (a / 8) 1) (store-acceptable a (next-lt (getD memory a 0)) m) m
+
+pub effective-lt : (i last : ℕ) {memory : List ℕ} → Acceptable memory → effective i last memory < 2 ^ wordBits
+unfolding effective
+effective-lt i last m =
+    choose-either (λ (n : ℕ). n < 2 ^ wordBits) (ib i)
+    (indexed-acceptable (firstAddress i last) m .words (firstAddress i last))
+    (firstAddress-lt i last)
+
+pub afterIndexing-acceptable : (i last : ℕ) {memory : List ℕ} → Acceptable memory → Acceptable (afterIndexing i last memory)
+unfolding afterIndexing
+afterIndexing-acceptable i last m = choose-either Acceptable (ib i) (indexed-acceptable (firstAddress i last) m) m

@@ -1,0 +1,31 @@
+-- `address::auto_index`: the code's test is the definition's.
+use borrow.Author.Tests.{eq-eqb, ne-eqb}
+use Rattle.reference.specs.Address.{indexed}
+use borrow.Author.Needs.{needs}
+use Rattle.reference.proofs.address.auto_index.Statement.{statement}
+use Rattle.reference.proofs.address.auto_index.Tie as tie
+
+load-requires : tie.Need-load-requires
+load-requires c κs = search needs
+
+increment-requires : tie.Need-increment-requires
+increment-requires c κs = search needs
+
+store-requires : tie.Need-store-requires
+store-requires c κs = search needs
+
+same-length : tie.Need-same-length
+same-length c = search needs
+
+returns : tie.Need-returns
+unfolding indexed
+returns c = simp (eq-eqb _ _ (c .before .before .before .before .before .before .before .if1 .taken)) (cc)
+
+returns-2 : tie.Need-returns-2
+unfolding indexed
+returns-2 c = simp (ne-eqb _ _ (c .if1 .left))
+
+pub auto-index-spec : {M : Type 1} → statement M
+auto-index-spec =
+    tie.close
+    (tie.spec load-requires increment-requires store-requires same-length returns returns-2)

@@ -1,0 +1,23 @@
+-- `reference::add_to` is its operation, then the interrupt test.
+use native.Mathlib.Omega.{arith}
+use borrow.Author.Needs.{needs}
+use Rattle.reference.proofs.operations.add_to.Statement.{statement}
+use Rattle.reference.proofs.operations.add_to.Tie as tie
+
+load-requires : tie.Need-load-requires
+load-requires c κs = search needs
+
+add-q : tie.Need-add-q
+add-q c = let start = c .before .before .before .before in omega (arith, start .pre .0 .lac, start .pre .0 .memory .words (start .args .e), c .before .load .ensures)
+
+interrupt-test-requires : tie.Need-interrupt-test-requires
+interrupt-test-requires c κs = search needs
+
+same-length : tie.Need-same-length
+same-length c = search needs
+
+returns : tie.Need-returns
+returns c = cc
+
+pub add-to-spec : {M : Type 1} → statement M
+add-to-spec = tie.close (tie.spec load-requires add-q interrupt-test-requires same-length returns)

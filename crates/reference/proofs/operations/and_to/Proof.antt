@@ -1,0 +1,32 @@
+-- `reference::and_to` is its operation, then the interrupt test.
+use native.Mathlib.Omega.{arith}
+use Prim.Native.Nat.{_%_}
+use lib.Bits.{and-le-l}
+use Rattle.machine.proofs.Lac.{ac-is}
+use borrow.Author.Needs.{needs}
+use Rattle.reference.proofs.operations.and_to.Statement.{statement}
+use Rattle.reference.proofs.operations.and_to.Tie as tie
+
+load-requires : tie.Need-load-requires
+load-requires c κs = search needs
+
+mul-q : tie.Need-mul-q
+mul-q c = search needs
+
+add-q : tie.Need-add-q
+add-q c = let start = c .before .before .before .before .before in
+    let h = and-le-l (start .args .p .lac % 4096) (c .before .before .load .result) in
+    omega (arith, start .pre .0 .lac)
+
+interrupt-test-requires : tie.Need-interrupt-test-requires
+interrupt-test-requires c κs = search needs
+
+same-length : tie.Need-same-length
+same-length c = search needs
+
+returns : tie.Need-returns
+returns c = simp ac-is (cc)
+
+pub and-to-spec : {M : Type 1} → statement M
+and-to-spec =
+    tie.close (tie.spec load-requires mul-q add-q interrupt-test-requires same-length returns)

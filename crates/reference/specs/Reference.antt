@@ -1,0 +1,56 @@
+-- "Ops" 0 to 5, which work on the word at an address e. "The result, e, is worked out once in an instruction of ops 0 to 5".
+-- Assumes nothing.
+use Prim.Native.Nat.{ℕ, _+_, _%_, _^_}
+use mathlib.Core.Bool.{true, false}
+use lib.Bits.{bitAnd}
+use lib.Dec.{eqb}
+use Rattle.word.specs.Choice.{choose}
+use Rattle.word.specs.Word.{next}
+use Rattle.machine.specs.State.{State, lacBits, word, stored, withLac, withPc, withMemory, ac, withAc, withoutAc}
+use Rattle.machine.specs.Instruction.{op}
+use Rattle.reference.specs.Address.{effective, afterIndexing}
+
+-- "0: AC = AC And M[e]"
+abbrev pub andTo : ℕ → State → State
+andTo e s = withLac (withAc (s .lac) (bitAnd (ac (s .lac)) (word e s))) s
+
+-- "1: LAC = LAC + M[e] modulo 8,192, M[e] extended by a zero bit"
+abbrev pub addTo : ℕ → State → State
+addTo e s = withLac ((s .lac + word e s) % 2 ^ lacBits) s
+
+-- "2: increase M[e]; if it is now 0, PC + 1"
+abbrev pub incrementAndSkip : ℕ → State → State
+incrementAndSkip e s = withPc (choose (next (word e s)) (s .pc) (next (s .pc))) (stored e (next (word e s)) s)
+
+-- "3: M[e] = AC, then AC = 0"
+abbrev pub deposit : ℕ → State → State
+deposit e s = withLac (withoutAc (s .lac)) (stored e (ac (s .lac)) s)
+
+-- "4: M[e] = PC, then PC = e + 1"
+abbrev pub callAt : ℕ → State → State
+callAt e s = withPc (next e) (stored e (s .pc) s)
+
+-- "5: PC = e"
+abbrev pub jumpTo : ℕ → State → State
+jumpTo e s = withPc e s
+
+-- by the op's number
+unfoldable pub operation : ℕ → ℕ → State → State
+operation n e s =
+    elim (eqb n 0) [
+      | true ↦ andTo e s
+      | false ↦ elim (eqb n 1) [
+        | true ↦ addTo e s
+        | false ↦ elim (eqb n 2) [
+          | true ↦ incrementAndSkip e s
+          | false ↦ elim (eqb n 3) [
+            | true ↦ deposit e s
+            | false ↦ elim (eqb n 4) [ true ↦ callAt e s | false ↦ jumpTo e s ]
+          ]
+        ]
+      ]
+    ]
+
+-- the instruction i that was fetched from `last`: address, then operation
+unfoldable pub reference : ℕ → ℕ → State → State
+reference i last s = operation (op i) (effective i last (s .memory)) (withMemory (afterIndexing i last (s .memory)) s)

@@ -1,0 +1,72 @@
+// The address that an instruction of ops 0 to 5 works on.
+use machine::memory::load;
+use machine::memory::store;
+ghost use mathlib.Core.Path.{_≡_};
+ghost use Prim.Native.Nat.{_^_, _<_};
+ghost use Rattle.word.specs.Choice.{choose};
+ghost use Rattle.word.specs.Word.{wordBits, bits};
+ghost use Rattle.state.specs.Acceptable.{Acceptable};
+ghost use Rattle.machine.specs.Instruction.{pb};
+ghost use Rattle.reference.specs.Address.{address, firstAddress, indexed, Addressed};
+
+// Bit 3, ib, and bit 4, pb.
+const INDIRECT: u64 = 0o400;
+
+const CURRENT: u64 = 0o200;
+
+// One of the 32 pages.
+pub struct PageNumber(pub u64);
+
+// One of the 128 words of a page.
+pub struct PageAddress(pub u64);
+
+// The address of a word of a page.
+fn joined(page: PageNumber, within: PageAddress) -> u64
+    requires { ⌜ page .0 < 2 ^ 5 ⌝ ∗ ⌜ within .0 < 2 ^ 7 ⌝ }
+    ensures { λ r. ⌜ r ≡ address (page .0) (within .0) ⌝ }
+{
+    page.0 * 128 + within.0
+}
+
+// The page of an instruction that was fetched from `last`: page 0, or the page of `last` itself.
+fn page(i: u64, last: u64) -> u64
+    ensures { λ r. ⌜ r ≡ choose (pb i) (bits wordBits 0 4 last) 0 ⌝ }
+{
+    if i / CURRENT % 2 != 0 {
+        last / 128 % 32
+    } else {
+        0
+    }
+}
+
+// The address before any indirection.
+fn first_address(i: u64, last: u64) -> u64
+    ensures { λ r. ⌜ r ≡ firstAddress i last ⌝ }
+{
+    joined(PageNumber(page(i, last)), PageAddress(i % 128))
+}
+
+// Auto-indexing: the word at a first address from 0010 to 0017 is increased.
+fn auto_index(memory: &mut [u16], a: u64)
+    requires { ⌜ Acceptable (now memory) ⌝ ∗ ⌜ a < 2 ^ wordBits ⌝ }
+    ensures { λ r. ⌜ now (memory .exit) ≡ indexed a (now (memory .entry)) ⌝ }
+{
+    if a / 8 == 1 {
+        let word = load(memory, a);
+        store(memory, a, word::increment(word));
+    }
+}
+
+// The address that the instruction works on. Auto-indexing may have changed a word on the way.
+pub fn effective_address(memory: &mut [u16], i: u64, last: u64) -> u64
+    requires { ⌜ Acceptable (now memory) ⌝ ∗ ⌜ i < 2 ^ wordBits ⌝ ∗ ⌜ last < 2 ^ wordBits ⌝ }
+    ensures { λ r. ⌜ Addressed i last (now (memory .entry)) (now (memory .exit)) r ⌝ }
+{
+    let first = first_address(i, last);
+    if i / INDIRECT % 2 != 0 {
+        auto_index(memory, first);
+        load(memory, first)
+    } else {
+        first
+    }
+}

@@ -1,0 +1,17 @@
+-- The listing that document 01 prints: of (L).
+-- Assumes nothing.
+use mathlib.Core.Path.{_≡_, refl}
+use Rattle.reference.specs.Address.{firstAddress, indexed, effective, afterIndexing}
+use Rattle.reference.specs.Reference.{operation, reference}
+use Rattle.operate.specs.Operate.{changed, rotated, skips, group1, group2, operate}
+use Rattle.machine.specs.Interrupt.{interruptTest}
+use Rattle.pdp8.specs.Step.{execute, step}
+use Rattle.pdp8.specs.Run.{runFrom, run}
+use Rattle.day_listing.specs.Text.{ascii, octal, decimalIn, decimal}
+use Rattle.day_listing.specs.Input.{linesOf, formed, fit, octalValue, addressOf, wordOf, loaded, firstUnfit}
+use Rattle.day_listing.specs.Listing.{clear, stepLine, stepLines, endLine, runListing, dayListing}
+
+pub day : dayListing (ascii "0200\t7300\n0201\t1204\n0202\t7001\n0203\t7402\n0204\t7777\n")
+    ≡ ascii "step\tpc\ti\tlac\trun\n1\t0200\t7300\t00000\t1\n2\t0201\t1204\t07777\t1\n3\t0202\t7001\t10000\t1\n4\t0203\t7402\t10000\t0\nend\t4\thalted\n"
+unfolding firstAddress indexed effective afterIndexing operation reference changed rotated skips group1 group2 operate interruptTest execute step runFrom run octal decimalIn decimal linesOf formed fit octalValue addressOf wordOf loaded firstUnfit clear stepLine stepLines endLine runListing dayListing
+day = refl

@@ -1,0 +1,90 @@
+-- `day_listing::run::put_run`: the heading, and the run listed as far as the loop has come.
+use borrow.Author.Needs.{needs}
+use borrow.Author.Tests.{ne-eqb}
+use mathlib.Core.Path.{ap}
+use mathlib.Core.Bool.{not}
+use mathlib.Core.Logic.{⊎-elim, inl, inr}
+use native.Mathlib.Omega.{arith}
+use Prim.Native.Nat.{_-_}
+use Rattle.word.specs.Choice.{choose}
+use Rattle.state.specs.declared.Reason.the-variants.{Halted, Spent}
+use Rattle.machine.specs.State.{at as state}
+use Rattle.day_listing.specs.Listing.{budget}
+use Rattle.day_listing.proofs.Writing.{written-then, written-page}
+use Rattle.day_listing.proofs.Sizes.{end-line-size}
+use Rattle.day_listing.proofs.Rest.{Listed, listed-none, listed-more, listed-all, run-listing}
+use Rattle.day_listing.proofs.run.put_run.Statement.{statement}
+use Rattle.day_listing.proofs.run.put_run.Tie as tie
+
+abbrev Inv-loop : tie.InvT-loop
+Inv-loop memory₀ page₀ p₀ at₀ done₀ memory page p at done = Listed (state p₀ memory₀) page₀ at₀ (state p memory) page at done
+
+abbrev μ-loop : tie.MeasureT-loop
+μ-loop memory₀ page₀ p₀ at₀ done₀ memory page p at done = budget - done
+
+slice-aggregate-put-text : tie.Need-slice-aggregate-put-text Inv-loop μ-loop
+slice-aggregate-put-text c = search needs
+
+put-text-requires : tie.Need-put-text-requires Inv-loop μ-loop
+put-text-requires c κs = search needs
+
+loop-holds : tie.Need-loop-holds Inv-loop μ-loop
+loop-holds c =
+    listed-none _ _ _ (record {
+      lac = omega arith;
+      pc = omega arith;
+      run = omega arith;
+      enable = omega arith;
+      request = omega arith;
+      switches = omega arith;
+      memory = c .before .before .before .pre;
+    })
+
+add-put-step : tie.Need-add-put-step Inv-loop μ-loop
+add-put-step c = search needs
+
+put-step-requires : tie.Need-put-step-requires Inv-loop μ-loop
+put-step-requires c κs = let head = c .before .before .before .before .before in
+    (head .loop .inv .good, omega (arith, head .before .put-text .ensures .place))
+
+add-done : tie.Need-add-done Inv-loop μ-loop
+add-done c = search needs
+
+loop-less : tie.Need-loop-less Inv-loop μ-loop
+loop-less c = search needs
+
+loop-again : tie.Need-loop-again Inv-loop μ-loop
+loop-again c = let here = c .before .before .before .before in
+    let turn = here .before .before in
+    listed-more (turn .before .loop .inv) (turn .loop-test .taken) (ap not (ne-eqb _ _ (here .if1 .left))) (c .before .put-step .ensures)
+
+put-end-line-requires : tie.Need-put-end-line-requires Inv-loop μ-loop
+put-end-line-requires c κs = let head = c .before .before in
+    omega (arith, head .loop .inv .room, head .loop .inv .count, head .before .put-text .ensures .place)
+
+returns : tie.Need-returns Inv-loop μ-loop
+returns c = let head = c .before .before .before in
+    let title = head .before .put-text .ensures in
+    let at = head .loop .inv in
+    let how = ⊎-elim (λ w. inl (w .left)) (λ w. inr (w .2 .taken)) (c .before .before .loop-test .came) in
+    let size = end-line-size (head .loop .done) (choose (head .loop .p .run) Spent Halted) (omega arith) in
+    rw run-listing
+    (written-page _ (search needs) (omega (arith, c .put-end-line .ensures .place, at .room, at .count, title .place, size))
+    (written-then _ _ title (listed-all at how (c .put-end-line .ensures))))
+
+pub put-run-spec : {M : Type 1} → statement M
+put-run-spec =
+    tie.close
+    (tie.spec
+    Inv-loop
+    μ-loop
+    slice-aggregate-put-text
+    put-text-requires
+    loop-holds
+    add-put-step
+    put-step-requires
+    add-done
+    loop-less
+    loop-again
+    put-end-line-requires
+    returns)

@@ -1,0 +1,73 @@
+-- `day_listing::scan::accepted`: the column tells which part of the line a byte belongs to.
+use borrow.Author.Needs.{needs}
+use borrow.Author.Tests.{lt-ltb, le-ltb}
+use Rattle.day_listing.specs.Scan.{accepted}
+use Rattle.day_listing.proofs.scan.accepted.Statement.{statement}
+use Rattle.day_listing.proofs.scan.accepted.Tie as tie
+
+add-next : tie.Need-add-next
+add-next c = search needs
+
+with-digit-requires : tie.Need-with-digit-requires
+with-digit-requires c κs = search needs
+
+returns : tie.Need-returns
+unfolding accepted
+returns c = rw (lt-ltb _ _ (c .before .before .if1 .taken), accepted) (cc)
+
+add-next-2 : tie.Need-add-next-2
+add-next-2 c = search needs
+
+returns-2 : tie.Need-returns-2
+unfolding accepted
+returns-2 c = rw (le-ltb _ _ (c .before .before .before .if1 .left), lt-ltb _ _ (c .before .if2 .taken), accepted)
+
+add-next-3 : tie.Need-add-next-3
+add-next-3 c = search needs
+
+with-digit-requires-2 : tie.Need-with-digit-requires-2
+with-digit-requires-2 c κs = search needs
+
+returns-3 : tie.Need-returns-3
+unfolding accepted
+returns-3 c = let two = c .before .before .before .before in
+    rw (le-ltb _ _ (two .before .before .if1 .left), le-ltb _ _ (two .if2 .left), lt-ltb _ _ (c .before .before .if3 .taken), accepted) (cc)
+
+cast-at : tie.Need-cast-at
+cast-at c = search needs
+
+mul-memory : tie.Need-mul-memory
+mul-memory c = search needs
+
+element-write-memory : tie.Need-element-write-memory
+element-write-memory c = search needs
+
+wrapping-add-u64-requires : tie.Need-wrapping-add-u64-requires
+wrapping-add-u64-requires c κs = search needs
+
+at-line-requires : tie.Need-at-line-requires
+at-line-requires c κs = search needs
+
+returns-4 : tie.Need-returns-4
+unfolding accepted
+returns-4 c = let two = c .before .before .before .before .before in
+    rw (le-ltb _ _ (two .before .before .if1 .left), le-ltb _ _ (two .if2 .left), le-ltb _ _ (c .before .before .before .if3 .left), accepted) (cc)
+
+pub accepted-spec : {M : Type 1} → statement M
+accepted-spec =
+    tie.close
+    (tie.spec
+    add-next
+    with-digit-requires
+    returns
+    add-next-2
+    returns-2
+    add-next-3
+    with-digit-requires-2
+    returns-3
+    cast-at
+    mul-memory
+    element-write-memory
+    wrapping-add-u64-requires
+    at-line-requires
+    returns-4)

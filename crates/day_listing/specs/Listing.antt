@@ -1,0 +1,73 @@
+-- "The day listing": from the bytes that the program reads to the bytes that it writes.
+-- Assumes nothing.
+use mathlib.Core.List.{List, [], _∷_, _++_}
+use mathlib.Core.Bool.{true, false}
+use Prim.Native.Nat.{ℕ, zero, suc}
+use lib.ListN.{replicate}
+use Rattle.word.specs.Choice.{on}
+use Rattle.state.specs.Limits.{memoryWords}
+use Rattle.state.specs.declared.Reason.{Reason}
+use Rattle.state.specs.declared.Reason.the-variants.{Halted, Spent}
+use Rattle.machine.specs.State.{State, word}
+use Rattle.pdp8.specs.Step.{step}
+use Rattle.pdp8.specs.Run.{run}
+use Rattle.day_listing.specs.Text.{ascii, tab, lineFeed, octal, decimal}
+use Rattle.day_listing.specs.Input.{linesOf, loaded, firstUnfit}
+
+-- "the budget is 16"
+abbrev pub budget : ℕ
+budget = 16
+
+-- "Other words .. are 0"
+unfoldable pub clear : List ℕ
+clear = replicate memoryWords 0
+
+-- "all registers are 0, except PC = 0200 and RUN = 1"
+abbrev pub ready : List ℕ → State
+ready memory = record { lac = 0; pc = 0o200; run = 1; enable = 0; request = 0; switches = 0; memory = memory }
+
+-- the first line of the output
+abbrev pub heading : List ℕ
+heading = ascii "step\tpc\ti\tlac\trun\n"
+
+-- "Step count decimal, address and word of the instruction, LAC after it in five octal digits, RUN after it"
+unfoldable pub stepLine : ℕ → ℕ → ℕ → ℕ → ℕ → List ℕ
+stepLine n pc i lac run =
+    decimal n ++ tab ∷ octal 4 pc ++ tab ∷ octal 4 i ++ tab ∷ octal 5 lac ++ tab ∷ octal 1 run ++ lineFeed ∷ []
+
+-- a line for each step of a run: `left` steps of the budget are left, and `done` steps have been done
+unfoldable pub stepLines : ℕ → ℕ → State → List ℕ
+stepLines zero done s = []
+stepLines (suc left) done s =
+    elim (on (s .run)) [
+      | true ↦ stepLine (suc done) (s .pc) (word (s .pc) s) (step s .lac) (step s .run) ++ stepLines left (suc done) (step s)
+      | false ↦ []
+    ]
+
+-- "`halted` if RUN is 0 at the end, else `spent`"
+abbrev pub reasonWord : Reason → List ℕ
+reasonWord Halted = ascii "halted"
+reasonWord Spent = ascii "spent"
+
+-- "last, the steps done and the reason"
+unfoldable pub endLine : ℕ → Reason → List ℕ
+endLine steps reason = ascii "end\t" ++ decimal steps ++ tab ∷ reasonWord reason ++ lineFeed ∷ []
+
+-- the listing of the run from a loaded memory
+unfoldable pub runListing : List ℕ → List ℕ
+runListing memory =
+    heading ++ stepLines budget 0 (ready memory)
+    ++ endLine (run budget (ready memory) .steps) (run budget (ready memory) .reason)
+
+-- "the output is only `refused`, TAB, the first such line's number"
+unfoldable pub refusedLine : ℕ → List ℕ
+refusedLine n = ascii "refused\t" ++ decimal n ++ lineFeed ∷ []
+
+-- "If any line is unfit, ..": for the number of the first unfit line, or 0, and the memory loaded
+abbrev pub listingOf : ℕ → List ℕ → List ℕ
+listingOf zero memory = runListing memory
+listingOf (suc n) memory = refusedLine (suc n)
+
+-- the output for an input
+unfoldable pub dayListing : List ℕ → List ℕ
+dayListing text = listingOf (firstUnfit 1 (linesOf text)) (loaded (linesOf text) clear)

@@ -14,7 +14,7 @@ use Rattle.machine.specs.declared.Machine.{Machine}
 use Rattle.pdp8.specs.declared.Answer.{Answer}
 use Rattle.pdp8.specs.declared.Answer.the-variants.{Ran, Refused}
 use Rattle.machine.specs.State.{values}
-use Rattle.pdp8.specs.Emulate.{Report, report, refused, emulate}
+use Rattle.pdp8.specs.Emulate.{Report, report, emulate}
 use Rattle.guavachisel.specs.Emulation.{machineOf, outcomeOf, Emulated}
 
 -- six numbers are what they are read as

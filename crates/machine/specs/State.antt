@@ -1,7 +1,7 @@
 -- The state of the machine: its six registers and memory; the parts of LAC; and what a state is that keeps every width.
 -- Assumes nothing.
 use mathlib.Core.List.{List, [], _∷_}
-use Prim.Native.Nat.{ℕ, _+_, _*_, _/_, _%_, _^_, _<_}
+use Prim.Native.Nat.{ℕ, _+_, _*_, _/_, _^_, _<_}
 use lib.ListN.{getD, set}
 use Rattle.word.specs.Word.{wordBits, bits}
 use Rattle.state.specs.Acceptable.{Acceptable}

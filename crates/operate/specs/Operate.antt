@@ -1,6 +1,6 @@
 -- "Op 7": its three groups, each in the order in which document 01 names what the bits do.
 -- Assumes nothing.
-use Prim.Native.Nat.{ℕ, _+_, _*_, _/_, _%_, _^_}
+use Prim.Native.Nat.{ℕ, _+_, _%_, _^_}
 use mathlib.Core.Bool.{Bool, true, false, not, _&&_, _||_}
 use lib.Bits.{bitOr}
 use Rattle.word.specs.Choice.{on, pick, choose}

@@ -1,7 +1,7 @@
 -- The emulator's checks find nothing exactly where every word and register fits and the budget is within its limit: so a run starts from a
 -- good state, and no good state is turned down.
 -- Assumes nothing.
-use mathlib.Core.Path.{_≡_, refl, sym, ap, _∙_}
+use mathlib.Core.Path.{_≡_}
 use mathlib.Core.List.{List}
 use Prim.Native.Nat.{ℕ, zero, suc, _≤_, _<_, _^_}
 use lib.Dec.{lit≤, lit<}

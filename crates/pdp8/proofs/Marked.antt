@@ -1,8 +1,7 @@
 -- The marked steps, proved together: the definition of a step takes each state before to the state after.
 -- Assumes nothing.
 use mathlib.Core.Path.{_≡_, refl}
-use mathlib.Core.List.{List, map}
-use Rattle.machine.specs.State.{State}
+use mathlib.Core.List.{map}
 use Rattle.pdp8.specs.Step.{execute, step}
 use Rattle.reference.specs.Address.{firstAddress, indexed, effective, afterIndexing}
 use Rattle.reference.specs.Reference.{operation, reference}

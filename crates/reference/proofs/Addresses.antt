@@ -6,8 +6,8 @@ use Prim.Native.Nat.{ℕ, _/_, _%_, _^_, _<_}
 use native.Mathlib.Nat.{div-one}
 use native.Mathlib.Omega.{arith}
 use lib.Dec.{eqb}
-use lib.ListN.{getD, set}
-use Rattle.word.specs.Word.{wordBits, bits, next}
+use lib.ListN.{getD}
+use Rattle.word.specs.Word.{wordBits, bits}
 use Rattle.word.specs.Choice.{choose}
 use Rattle.word.proofs.Choice.{pick-either, choose-either}
 use Rattle.word.proofs.Next.{next-lt}

@@ -1,25 +1,24 @@
 -- A check finds a state fit exactly where it is acceptable: what the engines may rely on after their checks, and that no acceptable
 -- state is turned down.
 -- Assumes nothing.
-use mathlib.Core.Path.{_≡_, refl, sym, ap, _∙_, subst}
+use mathlib.Core.Path.{_≡_, refl, _∙_}
 use mathlib.Core.Bool.{Bool, true, false}
 use mathlib.Core.List.{List, [], _∷_}
-use Prim.Native.Nat.{ℕ, zero, suc, _+_, _^_, _≤_, _<_}
-use native.Mathlib.Nat.{le-refl}
+use Prim.Native.Nat.{ℕ, zero, suc, _^_, _≤_, _<_}
 use native.Mathlib.Decide.{decLt}
 use native.Mathlib.Omega.{arith}
 use lib.ListN.{length, getD, set, length-set, List·getD-eq-default}
-use lib.Dec.{eqb, ltb, lit<}
+use lib.Dec.{eqb, ltb}
 use lib.Pow.{pow-pos}
 use borrow.Author.Tests.{eqb-true, ltb-true, ltb-false, eq-eqb, lt-ltb, le-ltb}
 use Rattle.word.specs.Choice.{pick}
 use Rattle.word.specs.Word.{wordBits}
-use Rattle.state.specs.Limits.{memoryWords, budgetLimit, rowPlaces}
+use Rattle.state.specs.Limits.{memoryWords, budgetLimit}
 use Rattle.state.specs.Checks.{firstUnfit, firstLargeWord, firstWideRegister, checkMemory, checkRegisters, checkBudget}
 use Rattle.state.specs.Refusals.{orElse}
 use Rattle.state.specs.Acceptable.{Acceptable, Fitting}
 use Rattle.state.specs.declared.Refusal.{Refusal}
-use Rattle.state.specs.declared.Refusal.the-variants.{MemoryLength, Word, Register, Budget}
+use Rattle.state.specs.declared.Refusal.the-variants.{MemoryLength, Budget}
 use Rattle.state.specs.declared.Verdict.{Verdict}
 use Rattle.state.specs.declared.Verdict.the-variants.{Fit, Unfit}
 use Rattle.state.proofs.Scan.{all-fit, none-unfit}

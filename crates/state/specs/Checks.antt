@@ -1,10 +1,10 @@
 -- "Turned down for the state": what is tried of memory, registers and budget, by both engines.
 -- Assumes nothing.
-use Prim.Native.Nat.{ℕ, zero, suc}
+use Prim.Native.Nat.{ℕ, suc}
 use mathlib.Core.Bool.{true, false}
 use mathlib.Core.List.{List, [], _∷_}
 use lib.ListN.{length, getD}
-use lib.Dec.{eqb, leb, ltb}
+use lib.Dec.{eqb, ltb}
 use Rattle.word.specs.Choice.{pick}
 use Rattle.word.specs.Word.{fits, wordBits}
 use Rattle.state.specs.Limits.{memoryWords, budgetLimit, rowPlaces}

@@ -1,7 +1,7 @@
 -- The laws of complement, for every width.
 -- Assumes nothing.
 use mathlib.Core.Path.{_≡_}
-use Prim.Native.Nat.{ℕ, _-_, _^_, _<_}
+use Prim.Native.Nat.{ℕ, _^_, _<_}
 use lib.Arith.{sub-sub-self}
 use lib.Pow.{ones-sub-lt, le-ones}
 use Rattle.word.specs.Word.{complement}

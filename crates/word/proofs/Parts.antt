@@ -1,12 +1,12 @@
 -- The laws of bit parts, for every width: a part and a join fit their widths, a stored part is read back, and "a bit part's other bits
 -- stay". A field is what stands p places from the right end in q bits; a bit part of a word is the field that `bits` names.
 -- Assumes nothing.
-use mathlib.Core.Path.{_≡_, refl, sym, ap, _∙_, subst}
-use Prim.Native.Nat.{ℕ, _+_, _-_, _*_, _/_, _%_, _^_, _≤_, _<_}
-use native.Mathlib.Nat.{mod-lt, add-comm, add-assoc, mul-assoc}
+use mathlib.Core.Path.{_≡_, sym, ap, _∙_, subst}
+use Prim.Native.Nat.{ℕ, _+_, _-_, _/_, _%_, _^_, _≤_, _<_}
+use native.Mathlib.Nat.{mod-lt}
 use native.Mathlib.Omega.{arith}
 use lib.Arith.{digits-lt}
-use lib.Pow.{pow-pos, pow-add, high, low, shr-shr, mod-pow-add, mod-mod-pow, shr-mod}
+use lib.Pow.{pow-pos, pow-add, high, low, shr-shr, mod-mod-pow}
 use Rattle.word.specs.Word.{field, withField, bits, withBits, join}
 
 -- a field fits its bits

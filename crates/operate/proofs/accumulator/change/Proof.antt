@@ -1,4 +1,6 @@
 -- `operate::change` calls what its definition names, in its order; each change keeps LAC within 13 bits.
+use mathlib.Core.Path.{ap, _∙_}
+use Rattle.operate.specs.Operate.{linkCleared, complemented, linkComplemented, increased}
 use Rattle.operate.specs.Operate.{changed}
 use Rattle.operate.proofs.Changes.{cleared-lt, linkCleared-lt, complemented-lt, linkComplemented-lt}
 use borrow.Author.Needs.{needs}
@@ -27,7 +29,12 @@ increase-requires c κs = let i = c .before .before .before .before .args .i in
 
 returns : tie.Need-returns
 unfolding changed
-returns c = cc
+returns c =
+    let i = c .before .before .before .before .before .args .i in
+    c .increase .ensures
+    ∙ ap (increased i) (c .before .complement-link .ensures
+    ∙ ap (linkComplemented i) (c .before .before .complement .ensures
+    ∙ ap (complemented i) (c .before .before .before .clear-link .ensures ∙ ap (linkCleared i) (c .before .before .before .before .clear .ensures))))
 
 pub change-spec : {M : Type 1} → statement M
 change-spec =

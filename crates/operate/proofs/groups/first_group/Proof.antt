@@ -1,4 +1,10 @@
 -- `operate::first_group` changes, then rotates, then makes the interrupt test.
+use mathlib.Core.Path.{ap, _∙_}
+use Prim.Native.Nat.{ℕ}
+use denote.Ref.{now}
+use Rattle.machine.specs.State.{at, withLac}
+use Rattle.machine.specs.Interrupt.{interruptTest}
+use Rattle.operate.specs.Operate.{turnedLeft, turnedRight}
 use Rattle.operate.specs.Operate.{group1, rotated}
 use Rattle.operate.proofs.Changes.{changed-lt, turnedLeft-lt}
 use borrow.Author.Needs.{needs}
@@ -23,7 +29,12 @@ same-length c = search needs
 
 returns : tie.Need-returns
 unfolding group1 rotated
-returns c = cc
+returns c =
+    let begin = c .before .before .before .before .before .before .before .before .args in
+    let s = at (begin .p) (now (begin .memory)) in
+    c .before .before .interrupt-test .ensures
+    ∙ ap (λ (x : ℕ). interruptTest (withLac x s)) (c .before .before .before .before .turn-right .ensures
+    ∙ ap (turnedRight (begin .i)) (c .before .before .before .before .before .turn-left .ensures ∙ ap (turnedLeft (begin .i)) (c .before .before .before .before .before .before .change .ensures)))
 
 pub first-group-spec : {M : Type 1} → statement M
 first-group-spec =

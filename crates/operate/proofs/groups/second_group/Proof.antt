@@ -1,4 +1,11 @@
 -- `operate::second_group`: the skip, the clear, the switches and the halt, then the interrupt test.
+use mathlib.Core.Path.{ap, _∙_}
+use denote.Ref.{now}
+use Rattle.machine.specs.Interrupt.{interruptTest}
+use Rattle.word.specs.Choice.{pick}
+use Rattle.word.specs.Word.{next}
+use Rattle.machine.specs.State.{at, withLac, withPc, withRun}
+use Rattle.operate.specs.Operate.{cleared, switched}
 use native.Mathlib.Omega.{arith}
 use Prim.Native.Nat.{ℕ, _^_, _<_}
 use Rattle.word.proofs.Choice.{pick-either}
@@ -32,7 +39,14 @@ same-length c = search needs
 
 returns : tie.Need-returns
 unfolding group2
-returns c = cc
+returns c =
+    let begin = c .before .before .before .before .before .before .before .before .before .args in
+    let s = at (begin .p) (now (begin .memory)) in
+    c .before .before .interrupt-test .ensures
+    ∙ ap (λ (x : ℕ). interruptTest (withPc x (withLac (c .before .before .before .before .before .or-switches .result) (withRun (c .before .before .before .before .halt .result) s)))) (c .before .before .before .before .before .before .before .skip .ensures)
+    ∙ ap (λ (x : ℕ). interruptTest (withPc (pick (skips (begin .i) (s .lac)) (next (s .pc)) (s .pc)) (withLac x (withRun (c .before .before .before .before .halt .result) s))))
+    (c .before .before .before .before .before .or-switches .ensures ∙ ap (switched (begin .i) (s .switches)) (c .before .before .before .before .before .before .clear .ensures))
+    ∙ ap (λ (x : ℕ). interruptTest (withPc (pick (skips (begin .i) (s .lac)) (next (s .pc)) (s .pc)) (withLac (switched (begin .i) (s .switches) (cleared (begin .i) (s .lac))) (withRun x s)))) (c .before .before .before .before .halt .ensures)
 
 pub second-group-spec : {M : Type 1} → statement M
 second-group-spec =

@@ -1,4 +1,9 @@
 -- `operate::third_group` clears, then makes the interrupt test.
+use mathlib.Core.Path.{ap, _∙_}
+use Prim.Native.Nat.{ℕ}
+use denote.Ref.{now}
+use Rattle.machine.specs.State.{at, withLac}
+use Rattle.machine.specs.Interrupt.{interruptTest}
 use Rattle.operate.specs.Operate.{group3}
 use borrow.Author.Needs.{needs}
 use Rattle.operate.proofs.groups.third_group.Statement.{statement}
@@ -15,7 +20,9 @@ same-length c = search needs
 
 returns : tie.Need-returns
 unfolding group3
-returns c = cc
+returns c =
+    let begin = c .before .before .before .before .before .before .args in
+    c .before .before .interrupt-test .ensures ∙ ap (λ (x : ℕ). interruptTest (withLac x (at (begin .p) (now (begin .memory))))) (c .before .before .before .before .clear .ensures)
 
 pub third-group-spec : {M : Type 1} → statement M
 third-group-spec = tie.close (tie.spec clear-requires interrupt-test-requires same-length returns)

@@ -2,7 +2,7 @@
 use mathlib.Core.Path.{sym, ap, _∙_, subst}
 use denote.Ref.{now}
 use Rattle.machine.specs.declared.Machine.{Machine}
-use Rattle.machine.specs.State.{State, start, Good}
+use Rattle.machine.specs.State.{start, Good}
 use Rattle.pdp8.specs.Run.{Run, run}
 use Rattle.pdp8.specs.Emulate.{finished}
 use Rattle.machine.proofs.Keeps.{good-narrow}

@@ -1,11 +1,8 @@
 -- `run::run`: what is left of the budget, from the state that is reached, has the run of the whole.
 use native.Mathlib.Nat.{sub-zero}
-use lib.ListN.{length-set}
 use borrow.Author.Needs.{needs}
-use native.Mathlib.Omega.{arith}
-use mathlib.Core.Path.{_≡_, refl, sym, ap, _∙_, subst}
+use mathlib.Core.Path.{_≡_, sym, ap, _∙_, subst}
 use Prim.Native.Nat.{_+_, _-_, _≤_}
-use lib.ListN.{length}
 use Rattle.machine.specs.State.{State, at, Good}
 use Rattle.pdp8.specs.Run.{runFrom, run}
 use Rattle.pdp8.proofs.Keeps.{step-good}

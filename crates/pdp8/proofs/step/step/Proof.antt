@@ -1,5 +1,4 @@
 -- `step::step` fetches, increases PC and executes.
-use Prim.Native.Nat.{ℕ}
 use Rattle.pdp8.specs.Step.{step}
 use Rattle.machine.proofs.Keeps.{pc-good}
 use Rattle.word.proofs.Next.{next-lt}

@@ -1,4 +1,9 @@
 -- `reference::add_to` is its operation, then the interrupt test.
+use mathlib.Core.Path.{ap, _∙_}
+use Prim.Native.Nat.{ℕ, _+_, _%_, _^_}
+use denote.Ref.{now}
+use Rattle.machine.specs.State.{at, withLac, lacBits}
+use Rattle.machine.specs.Interrupt.{interruptTest}
 use native.Mathlib.Omega.{arith}
 use borrow.Author.Needs.{needs}
 use Rattle.reference.proofs.operations.add_to.Statement.{statement}
@@ -17,7 +22,10 @@ same-length : tie.Need-same-length
 same-length c = search needs
 
 returns : tie.Need-returns
-returns c = cc
+returns c =
+    let begin = c .before .before .before .before .before .before .before .before .args in
+    let s = at (begin .p) (now (begin .memory)) in
+    c .before .before .interrupt-test .ensures ∙ ap (λ (w : ℕ). interruptTest (withLac ((s .lac + w) % 2 ^ lacBits) s)) (c .before .before .before .before .before .load .ensures)
 
 pub add-to-spec : {M : Type 1} → statement M
 add-to-spec = tie.close (tie.spec load-requires add-q interrupt-test-requires same-length returns)

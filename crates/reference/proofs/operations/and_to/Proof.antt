@@ -1,4 +1,11 @@
 -- `reference::and_to` is its operation, then the interrupt test.
+use mathlib.Core.Path.{sym, ap, _∙_}
+use Prim.Native.Nat.{ℕ, _%_, _^_}
+use denote.Ref.{now}
+use Rattle.word.specs.Word.{wordBits}
+use Rattle.machine.specs.State.{at, word, withLac, withAc}
+use Rattle.machine.specs.Interrupt.{interruptTest}
+use lib.Bits.{bitAnd}
 use native.Mathlib.Omega.{arith}
 use Prim.Native.Nat.{_%_}
 use lib.Bits.{and-le-l}
@@ -25,7 +32,12 @@ same-length : tie.Need-same-length
 same-length c = search needs
 
 returns : tie.Need-returns
-returns c = simp ac-is (cc)
+returns c =
+    let begin = c .before .before .before .before .before .before .before .before .before .args in
+    let s = at (begin .p) (now (begin .memory)) in
+    c .before .before .interrupt-test .ensures
+    ∙ ap (λ (w : ℕ). interruptTest (withLac (withAc (s .lac) (bitAnd (s .lac % 2 ^ wordBits) w)) s)) (c .before .before .before .before .before .before .load .ensures)
+    ∙ ap (λ (a : ℕ). interruptTest (withLac (withAc (s .lac) (bitAnd a (word (begin .e) s))) s)) (sym (ac-is (s .lac)))
 
 pub and-to-spec : {M : Type 1} → statement M
 and-to-spec =

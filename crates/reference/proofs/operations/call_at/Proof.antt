@@ -1,4 +1,10 @@
 -- `reference::call_at` is its operation, then the interrupt test.
+use mathlib.Core.Path.{ap, _∙_}
+use Prim.Native.Nat.{ℕ}
+use denote.Ref.{now}
+use Rattle.machine.specs.State.{at, stored, withPc, withMemory}
+use Rattle.machine.specs.Interrupt.{interruptTest}
+use mathlib.Core.List.{List}
 use borrow.Author.Needs.{needs}
 use Rattle.reference.proofs.operations.call_at.Statement.{statement}
 use Rattle.reference.proofs.operations.call_at.Tie as tie
@@ -16,7 +22,12 @@ same-length : tie.Need-same-length
 same-length c = search needs
 
 returns : tie.Need-returns
-returns c = cc
+returns c =
+    let begin = c .before .before .before .before .before .before .before .before .before .before .args in
+    let s = at (begin .p) (now (begin .memory)) in
+    c .before .before .interrupt-test .ensures
+    ∙ ap (λ (m : List ℕ). interruptTest (withPc (c .before .before .before .before .increment .result) (withMemory m s))) (c .before .before .before .before .before .before .before .store .ensures)
+    ∙ ap (λ (n : ℕ). interruptTest (withPc n (stored (begin .e) (s .pc) s))) (c .before .before .before .before .increment .ensures)
 
 pub call-at-spec : {M : Type 1} → statement M
 call-at-spec =

@@ -1,4 +1,10 @@
 -- `reference::deposit_at` is its operation, then the interrupt test.
+use mathlib.Core.Path.{sym, ap, _∙_}
+use Prim.Native.Nat.{ℕ}
+use denote.Ref.{now}
+use Rattle.machine.specs.State.{at, stored, withLac, withMemory, withoutAc}
+use Rattle.machine.specs.Interrupt.{interruptTest}
+use mathlib.Core.List.{List}
 use Rattle.machine.proofs.Lac.{ac-is}
 use borrow.Author.Needs.{needs}
 use Rattle.reference.proofs.operations.deposit_at.Statement.{statement}
@@ -17,7 +23,12 @@ same-length : tie.Need-same-length
 same-length c = search needs
 
 returns : tie.Need-returns
-returns c = simp ac-is (cc)
+returns c =
+    let begin = c .before .before .before .before .before .before .before .before .before .before .before .args in
+    let s = at (begin .p) (now (begin .memory)) in
+    c .before .before .interrupt-test .ensures
+    ∙ ap (λ (m : List ℕ). interruptTest (withLac (withoutAc (s .lac)) (withMemory m s))) (c .before .before .before .before .before .before .before .store .ensures)
+    ∙ ap (λ (a : ℕ). interruptTest (withLac (withoutAc (s .lac)) (stored (begin .e) a s))) (sym (ac-is (s .lac)))
 
 pub deposit-at-spec : {M : Type 1} → statement M
 deposit-at-spec =

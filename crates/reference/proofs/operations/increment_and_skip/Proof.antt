@@ -1,5 +1,12 @@
 -- `reference::increment_and_skip`: the code's test is the definition's; the address is used twice and worked out once.
-use borrow.Author.Tests.{eq-eqb, ne-eqb}
+use mathlib.Core.Path.{ap, _∙_}
+use Prim.Native.Nat.{ℕ}
+use denote.Ref.{now}
+use Rattle.machine.specs.State.{at, stored, withPc, withMemory}
+use Rattle.machine.specs.Interrupt.{interruptTest}
+use mathlib.Core.List.{List}
+use Rattle.word.specs.Word.{next}
+use Rattle.reference.proofs.Skips.{isz-stays, isz-skips}
 use borrow.Author.Needs.{needs}
 use Rattle.reference.proofs.operations.increment_and_skip.Statement.{statement}
 use Rattle.reference.proofs.operations.increment_and_skip.Tie as tie
@@ -20,7 +27,13 @@ same-length : tie.Need-same-length
 same-length c = search needs
 
 returns : tie.Need-returns
-returns c = simp (← c .before .before .before .before .before .before .before .before .before .before .load .ensures, ← c .before .before .before .before .before .before .before .before .before .increment .ensures, ne-eqb _ _ (c .before .before .before .before .if1 .taken)) (cc)
+returns c =
+    let begin = c .before .before .before .before .before .before .before .before .before .before .before .before .before .args in
+    let s = at (begin .p) (now (begin .memory)) in
+    let increased = c .before .before .before .before .before .before .before .before .before .increment .ensures ∙ ap next (c .before .before .before .before .before .before .before .before .before .before .load .ensures) in
+    c .before .before .interrupt-test .ensures
+    ∙ ap (λ (m : List ℕ). interruptTest (withMemory m s)) (c .before .before .before .before .before .before .before .store .ensures)
+    ∙ ap interruptTest (isz-stays (begin .e) _ s increased (c .before .before .before .before .if1 .taken))
 
 increment-requires-2 : tie.Need-increment-requires-2
 increment-requires-2 c κs = search needs
@@ -32,7 +45,14 @@ same-length-2 : tie.Need-same-length-2
 same-length-2 c = search needs
 
 returns-2 : tie.Need-returns-2
-returns-2 c = simp (← c .before .before .before .before .before .before .before .before .before .before .before .load .ensures, ← c .before .before .before .before .before .before .before .before .before .before .increment .ensures, eq-eqb _ _ (c .before .before .before .before .before .if1 .left)) (cc)
+returns-2 c =
+    let begin = c .before .before .before .before .before .before .before .before .before .before .before .before .before .before .args in
+    let s = at (begin .p) (now (begin .memory)) in
+    let increased = c .before .before .before .before .before .before .before .before .before .before .increment .ensures ∙ ap next (c .before .before .before .before .before .before .before .before .before .before .before .load .ensures) in
+    c .before .before .interrupt-test2 .ensures
+    ∙ ap (λ (m : List ℕ). interruptTest (withPc (c .before .before .before .before .increment2 .result) (withMemory m s))) (c .before .before .before .before .before .before .before .before .store .ensures)
+    ∙ ap (λ (n : ℕ). interruptTest (withPc n (stored (begin .e) (c .before .before .before .before .before .before .before .before .before .before .increment .result) s))) (c .before .before .before .before .increment2 .ensures)
+    ∙ ap interruptTest (isz-skips (begin .e) _ s increased (c .before .before .before .before .before .if1 .left))
 
 pub increment-and-skip-spec : {M : Type 1} → statement M
 increment-and-skip-spec =

@@ -1,4 +1,9 @@
 -- `reference::operated`: the code's match is the definition's chain of tests.
+use mathlib.Core.Path.{sym, ap, _∙_}
+use Prim.Native.Nat.{ℕ}
+use denote.Ref.{now}
+use Rattle.machine.specs.State.{at}
+use Rattle.machine.specs.Interrupt.{interruptTest}
 use borrow.Author.Tests.{ne-eqb}
 use Rattle.reference.specs.Reference.{operation}
 use borrow.Author.Needs.{needs}
@@ -28,35 +33,50 @@ same-length c = search needs
 
 returns : tie.Need-returns
 unfolding operation
-returns c = simp (c .before .before .before .before .match .keys1) (cc)
+returns c =
+    let begin = c .before .before .before .before .before .before .args in
+    c .before .before .and-to .ensures
+    ∙ ap (λ (n : ℕ). interruptTest (operation n (begin .e) (at (begin .p) (now (begin .memory))))) (sym (c .before .before .before .before .match .keys1))
 
 same-length-2 : tie.Need-same-length-2
 same-length-2 c = search needs
 
 returns-2 : tie.Need-returns-2
 unfolding operation
-returns-2 c = simp (c .before .before .before .before .match .keys2) (cc)
+returns-2 c =
+    let begin = c .before .before .before .before .before .before .args in
+    c .before .before .add-to .ensures
+    ∙ ap (λ (n : ℕ). interruptTest (operation n (begin .e) (at (begin .p) (now (begin .memory))))) (sym (c .before .before .before .before .match .keys2))
 
 same-length-3 : tie.Need-same-length-3
 same-length-3 c = search needs
 
 returns-3 : tie.Need-returns-3
 unfolding operation
-returns-3 c = simp (c .before .before .before .before .match .keys3) (cc)
+returns-3 c =
+    let begin = c .before .before .before .before .before .before .args in
+    c .before .before .increment-and-skip .ensures
+    ∙ ap (λ (n : ℕ). interruptTest (operation n (begin .e) (at (begin .p) (now (begin .memory))))) (sym (c .before .before .before .before .match .keys3))
 
 same-length-4 : tie.Need-same-length-4
 same-length-4 c = search needs
 
 returns-4 : tie.Need-returns-4
 unfolding operation
-returns-4 c = simp (c .before .before .before .before .match .keys4) (cc)
+returns-4 c =
+    let begin = c .before .before .before .before .before .before .args in
+    c .before .before .deposit-at .ensures
+    ∙ ap (λ (n : ℕ). interruptTest (operation n (begin .e) (at (begin .p) (now (begin .memory))))) (sym (c .before .before .before .before .match .keys4))
 
 same-length-5 : tie.Need-same-length-5
 same-length-5 c = search needs
 
 returns-5 : tie.Need-returns-5
 unfolding operation
-returns-5 c = simp (c .before .before .before .before .match .keys5) (cc)
+returns-5 c =
+    let begin = c .before .before .before .before .before .before .args in
+    c .before .before .call-at .ensures
+    ∙ ap (λ (n : ℕ). interruptTest (operation n (begin .e) (at (begin .p) (now (begin .memory))))) (sym (c .before .before .before .before .match .keys5))
 
 same-length-6 : tie.Need-same-length-6
 same-length-6 c = search needs

@@ -6,7 +6,7 @@ use mathlib.Core.List.{[]}
 use lib.ListN.{length}
 use Rattle.day_listing.proofs.Numbers.{decimal-one, decimal-more, decimal-grows}
 use Rattle.day_listing.proofs.Writing.{written-none, written-byte}
-use Prim.Native.Nat.{ℕ}
+use Prim.Native.Nat.{ℕ, _<_}
 use borrow.Fn.Kinds.{In}
 use borrow.Fn.PlainCycle.{Measures, is, falls, and}
 use Rattle.day_listing.proofs.put.put_decimal.Reads as put-decimal

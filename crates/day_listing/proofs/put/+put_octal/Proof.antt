@@ -4,7 +4,7 @@ use native.Mathlib.Omega.{arith}
 use Rattle.day_listing.specs.Text.{octal}
 use Rattle.day_listing.proofs.Numbers.{octal-more, octal-length}
 use Rattle.day_listing.proofs.Writing.{written-none, written-byte}
-use Prim.Native.Nat.{ℕ, _-_, _/_}
+use Prim.Native.Nat.{ℕ, _-_, _/_, _<_}
 use borrow.Fn.Kinds.{In}
 use borrow.Fn.PlainCycle.{Measures, is, falls, and}
 use Rattle.day_listing.proofs.put.put_octal.Reads as put-octal

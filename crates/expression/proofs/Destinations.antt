@@ -1,0 +1,175 @@
+-- The laws of destinations: a name or a bit part that ends with the field, and an address whose bracket does.
+-- Assumes nothing.
+use mathlib.Core.Path.{_≡_, refl, sym, ap, subst, _∙_}
+use mathlib.Core.Bool.{Bool, true, false, _&&_}
+use mathlib.Core.List.{List, [], _∷_}
+use Prim.Native.Nat.{ℕ, _+_, _≤_, _<_}
+use lib.Dec.{eqb, leb}
+use lib.ListN.{length, getD}
+use borrow.Author.Tests.{eq-eqb, ne-eqb, eqb-true, eqb-false}
+use Rattle.text.specs.Bytes.{runEnd, same}
+use Rattle.text.specs.Names.{Named}
+use Rattle.text.specs.declared.bytes.Class.the-variants as class
+use Rattle.text.proofs.Tests.{by-test}
+use Rattle.token.specs.declared.references.Reference.{Reference}
+use Rattle.token.specs.declared.references.Reference.the-variants.{Whole, Part, Unknown}
+use Rattle.token.specs.Operators.{weakest}
+use Rattle.token.specs.References.{skip, next, slice, widthIn, referenceAt}
+use Rattle.token.proofs.Onward.{whole-known, bits-known}
+use Rattle.expression.specs.declared.code.Cursor.{Cursor}
+use Rattle.expression.specs.declared.code.Part.the-variants.{Fault}
+use Rattle.expression.specs.declared.fields.Place.{Place}
+use Rattle.expression.specs.declared.fields.Place.the-variants.{Register, Bits, Word, Nowhere}
+use Rattle.expression.specs.Tree.{Expr, pieces}
+use Rattle.expression.specs.Grammar.{Reading, read, outside, level, trimmed, fuel, mostPieces, Destination, toRegister, toPart, toMemory, nowhere, ofName, ofAddress, memoryAt, destination}
+use Rattle.expression.specs.Met.{Held, Meets, Aims, Points, Addressed}
+use Rattle.expression.proofs.Calls.{at, faulty}
+use Rattle.expression.proofs.WholeFields.{few-pieces}
+
+-- names
+module _ (s : List ℕ) (r w p : ℕ) where
+  pub to-register : p ≡ length s → ofName s (Whole r w p) ≡ toRegister r w
+  unfolding ofName
+  to-register e = rw (eq-eqb p (length s) e, ofName)
+
+  pub not-register : (p ≡ length s → ⊥) → ofName s (Whole r w p) ≡ nowhere
+  unfolding ofName
+  not-register e = rw (ne-eqb p (length s) e, ofName)
+
+  pub to-part : (a b : ℕ) → p ≡ length s → ofName s (Part r w a b p) ≡ toPart r w a b
+  unfolding ofName
+  to-part a b e = rw (eq-eqb p (length s) e, ofName)
+
+  pub not-part : (a b : ℕ) → (p ≡ length s → ⊥) → ofName s (Part r w a b p) ≡ nowhere
+  unfolding ofName
+  not-part a b e = rw (ne-eqb p (length s) e, ofName)
+
+-- an address
+module _ (s : List ℕ) (t : Expr) (p : ℕ) where
+  abbrev shut : Bool
+  shut = eqb (next s p) 93 && eqb (skip s p + 1) (length s) && leb (pieces t) mostPieces
+
+  is-address : shut ≡ true → ofAddress s (read t p) ≡ toMemory t
+  unfolding ofAddress
+  is-address e = rw (e, ofAddress)
+
+  no-address : shut ≡ false → ofAddress s (read t p) ≡ nowhere
+  unfolding ofAddress
+  no-address e = rw (e, ofAddress)
+
+module _ (s : List ℕ) (c from : Cursor) where
+  abbrev ends : ℕ → Bool
+  ends q = eqb (next s q) 93 && eqb (skip s q + 1) (length s) && leb (c .pieces) (from .pieces + 32)
+
+  -- the definition's test is the code's
+  same-test : (t : Expr) (p w : ℕ) (before after : List ℕ) → Held t p c w from before after → shut s t p ≡ ends (c .place)
+  same-test t p w before after h =
+      ap (λ (b : Bool). eqb (next s p) 93 && eqb (skip s p + 1) (length s) && b) (few-pieces (from .pieces) (pieces t) (c .pieces) (h .pieces-are))
+      ∙ ap ends (sym (h .place-is))
+
+  -- the code's test, by the place and the byte that it finds
+  pub as-found : (q x : ℕ) → q ≡ skip s (c .place) → x ≡ getD s q 0
+      → ends (c .place) ≡ eqb x 93 && eqb (q + 1) (length s) && leb (c .pieces) (from .pieces + 32)
+  as-found q x e f = rw (f, e)
+
+  pub addressed : ends (c .place) ≡ true → Addressed s c (Word c) from
+  addressed u (read t p) w before after few less h =
+      record {
+        tree = t;
+        is = is-address s t p (same-test t p w before after h ∙ u);
+        pieces-are = h .pieces-are;
+        words-are = h .words-are;
+        code-is = h .code-is;
+        words-few = few;
+        pieces-few = less;
+      }
+  addressed u outside w before after few less h = absurd h
+
+  pub unaddressed : ends (c .place) ≡ false → Addressed s c Nowhere from
+  unaddressed u (read t p) w before after few less h = no-address s t p (same-test t p w before after h ∙ u)
+  unaddressed u outside w before after few less h = absurd h
+
+pub address-fault : (s : List ℕ) (x : Reading) (from : Cursor) (before after : List ℕ) → Meets x Fault from before after → ofAddress s x ≡ nowhere
+unfolding ofAddress
+address-fault s x from before after m = ap (ofAddress s) (faulty x from before after m)
+
+-- a destination that is known, from a cursor whose place doesn't count
+pub aimed : (r : Place) (x y : Destination) (s : List ℕ) (from : Cursor) (q : ℕ) (before after : List ℕ) → x ≡ y → Aims r y s (at from q) before after → Aims r x s from before after
+aimed (Register r w) x y s from q before after e m = (e ∙ m .0, m .1)
+aimed (Bits r w a b) x y s from q before after e m = (e ∙ m .0, m .1)
+aimed (Word c) x y s from q before after e m =
+    record { tree = m .tree; is = e ∙ m .is; pieces-are = m .pieces-are; words-are = m .words-are; code-is = m .code-is; words-few = m .words-few; pieces-few = m .pieces-few }
+aimed Nowhere x y s from q before after e m = e ∙ m
+
+pub pointed : (r : Place) (x y : Destination) (s : List ℕ) (from : Cursor) (before : List ℕ) → x ≡ y → Points r y → Aims r x s from before before
+pointed (Register r w) x y s from before e m = (e ∙ m, refl)
+pointed (Bits r w a b) x y s from before e m = (e ∙ m, refl)
+pointed (Word c) x y s from before e m = absurd m
+pointed Nowhere x y s from before e m = e ∙ m
+
+module _ (rs : List Named) (s : List ℕ) where
+  pub opens : (end : ℕ) → eqb (next s end) 91 ≡ true → memoryAt rs s end ≡ ofAddress s (level (fuel s) rs s 0 weakest (skip s end + 1))
+  unfolding memoryAt
+  opens end t = rw (t, memoryAt)
+
+  pub bare : (end : ℕ) → eqb (next s end) 91 ≡ false → memoryAt rs s end ≡ nowhere
+  unfolding memoryAt
+  bare end t = rw (t, memoryAt)
+
+  pub to-memory : trimmed s ≡ true → same (slice s 0 (runEnd class.Word s 0)) (77 ∷ []) ≡ true → destination rs s ≡ memoryAt rs s (runEnd class.Word s 0)
+  unfolding destination
+  to-memory t u = rw (t, u, destination)
+
+  pub to-name : trimmed s ≡ true → same (slice s 0 (runEnd class.Word s 0)) (77 ∷ []) ≡ false → destination rs s ≡ ofName s (referenceAt rs s 0)
+  unfolding destination
+  to-name t u = rw (t, u, destination)
+
+  pub not-trimmed : trimmed s ≡ false → destination rs s ≡ nowhere
+  unfolding destination
+  not-trimmed t = rw (t, destination)
+
+-- what a destination names is a register of the list with its width, and bits of it
+abbrev pub Known : List Named → Destination → Type 0
+Known rs (toRegister r w) = (r < length rs) × (w ≡ widthIn rs r)
+Known rs (toPart r w a b) = (r < length rs) × (w ≡ widthIn rs r) × (a ≤ b) × (b < w)
+Known rs (toMemory t) = Unit {0}
+Known rs nowhere = Unit {0}
+
+module _ (rs : List Named) (s : List ℕ) where
+  known : (x y : Destination) → x ≡ y → Known rs y → Known rs x
+  known x y e k = subst (Known rs) (sym e) k
+
+  named-known : (x : Reference) → referenceAt rs s 0 ≡ x → Known rs (ofName s x)
+  unfolding ofName
+  named-known (Whole r w p) e =
+      by-test (eqb p (length s))
+      (λ t. known (ofName s (Whole r w p)) (toRegister r w) (to-register s r w p (eqb-true p (length s) t)) (whole-known rs s 0 r w p e))
+      (λ t. known (ofName s (Whole r w p)) nowhere (not-register s r w p (eqb-false p (length s) t)) tt)
+  named-known (Part r w a b p) e =
+      by-test (eqb p (length s))
+      (λ t. known (ofName s (Part r w a b p)) (toPart r w a b) (to-part s r w p a b (eqb-true p (length s) t)) (bits-known rs s 0 r w a b p e))
+      (λ t. known (ofName s (Part r w a b p)) nowhere (not-part s r w p a b (eqb-false p (length s) t)) tt)
+  named-known Unknown e = tt
+
+  address-known : (x : Reading) → Known rs (ofAddress s x)
+  unfolding ofAddress
+  address-known (read t p) =
+      by-test (shut s t p)
+      (λ u. known (ofAddress s (read t p)) (toMemory t) (is-address s t p u) tt)
+      (λ u. known (ofAddress s (read t p)) nowhere (no-address s t p u) tt)
+  address-known outside = tt
+
+  memory-known : (end : ℕ) → Known rs (memoryAt rs s end)
+  memory-known end =
+      by-test (eqb (next s end) 91)
+      (λ t. known (memoryAt rs s end) (ofAddress s (level (fuel s) rs s 0 weakest (skip s end + 1))) (opens rs s end t) (address-known (level (fuel s) rs s 0 weakest (skip s end + 1))))
+      (λ t. known (memoryAt rs s end) nowhere (bare rs s end t) tt)
+
+  pub destination-known : Known rs (destination rs s)
+  destination-known =
+      by-test (trimmed s)
+      (λ t.
+      by-test (same (slice s 0 (runEnd class.Word s 0)) (77 ∷ []))
+      (λ u. known (destination rs s) (memoryAt rs s (runEnd class.Word s 0)) (to-memory rs s t u) (memory-known (runEnd class.Word s 0)))
+      (λ u. known (destination rs s) (ofName s (referenceAt rs s 0)) (to-name rs s t u) (named-known (referenceAt rs s 0) refl)))
+      (λ t. known (destination rs s) nowhere (not-trimmed rs s t) tt)

@@ -1,0 +1,256 @@
+-- What the grammar reads is formed, whatever the field is: of each of its functions in turn, by induction on the calls.
+-- Assumes nothing.
+use mathlib.Core.Path.{_≡_, refl, sym, ap, subst, _∙_}
+use mathlib.Core.Bool.{true, false, _&&_}
+use mathlib.Core.List.{List, [], _∷_}
+use Prim.Native.Nat.{ℕ, zero, suc, _+_, _≤_, _<_}
+use native.Mathlib.Omega.{arith}
+use lib.Dec.{eqb, leb, ltb}
+use lib.ListN.{length}
+use borrow.Author.Tests.{ltb-true, ltb-false, leb-true, eqb-true, ne-eqb}
+use Rattle.word.specs.Word.{widest}
+use Rattle.text.specs.Bytes.{isLetter, runEnd, same}
+use Rattle.text.specs.Constants.{constantAt, decimalAt}
+use Rattle.text.specs.Names.{Named}
+use Rattle.text.specs.declared.bytes.Class.the-variants as class
+use Rattle.text.specs.declared.constants.Number.{Number}
+use Rattle.text.specs.declared.constants.Number.the-variants.{Plain, Unread}
+use Rattle.text.specs.declared.constants.Constant.{Constant}
+use Rattle.text.specs.declared.constants.Constant.the-variants.{Found, Missing}
+use Rattle.text.proofs.Cases.{by-case}
+use Rattle.text.proofs.Tests.{by-test, and-right}
+use Rattle.text.proofs.Widths.{Fitting, constant-fits}
+use Rattle.token.specs.declared.operators.Entry.{Entry}
+use Rattle.token.specs.declared.operators.Widths.{Widths}
+use Rattle.token.specs.declared.operators.Widths.the-variants.{Left, Sum, Carry, One, Wider}
+use Rattle.token.specs.declared.references.Reference.{Reference}
+use Rattle.token.specs.declared.references.Reference.the-variants.{Whole, Part, Unknown}
+use Rattle.token.specs.Operators.{table, noEntry, rowOf, entryIn, weakest, strongest, rotations, widthBy}
+use Rattle.token.specs.References.{skip, next, slice, operatorAt, operatorEnd, widthIn, referenceAt}
+use Rattle.token.proofs.Onward.{whole-known, bits-known}
+use Rattle.expression.specs.Tree.{Expr, register, bitPart, constant, memory, complemented, rotated, binary, width, pieces}
+use Rattle.expression.specs.Grammar.{Reading, read, outside, deepest, mostPieces, limited, ofReference, ofConstant, notOf, closed, turned, joined, level, more, operation, operand, worded, negated, enclosed, fuel, trimmed, whole, expression, toPart, ofName, ofAddress, memoryAt, destination}
+use Rattle.expression.specs.Formed.{Registers, isOf, Formed, Accepted, Reads, FormedDestination}
+use Rattle.expression.proofs.Parts.{row-is}
+
+-- a formed tree's width: 1 to 16
+pub formed-narrow : (rs : List Named) (t : Expr) → Formed rs t → width t ≤ widest
+formed-narrow rs (register r w) h = h .narrow
+formed-narrow rs (bitPart r w a b) h = h .narrow
+formed-narrow rs (constant w v) h = h .narrow
+formed-narrow rs (memory e) h = omega arith
+formed-narrow rs (complemented e) h = formed-narrow rs e h
+formed-narrow rs (rotated o e n) h = formed-narrow rs e (h .side)
+formed-narrow rs (binary o l r) h = h .narrow
+
+pub register-width : (rs : List Named) (r : ℕ) → Registers rs → r < length rs → (1 ≤ widthIn rs r) × (widthIn rs r ≤ widest)
+register-width [] r h l = absurd (omega arith)
+register-width (e ∷ es) zero h l = (h .some, h .narrow)
+register-width (e ∷ es) (suc r) h l = register-width es r (h .others) (omega arith)
+
+joined-some : (k : Widths) (l r : ℕ) → 1 ≤ l → 1 ≤ widthBy k l r
+joined-some Left l r h = h
+joined-some Sum l r h = omega arith
+joined-some Carry l r h = omega arith
+joined-some One l r h = omega arith
+joined-some Wider l r h = omega arith
+
+pub formed-some : (rs : List Named) → Registers rs → (t : Expr) → Formed rs t → 1 ≤ width t
+formed-some rs g (register r w) h = subst (λ (n : ℕ). 1 ≤ n) (sym (h .width-is)) (register-width rs r g (h .listed) .0)
+formed-some rs g (bitPart r w a b) h = omega arith
+formed-some rs g (constant w v) h = h .some
+formed-some rs g (memory e) h = omega arith
+formed-some rs g (complemented e) h = formed-some rs g e h
+formed-some rs g (rotated o e n) h = formed-some rs g e (h .side)
+formed-some rs g (binary o l r) h = joined-some (entryIn (rowOf o) .widths) (width l) (width r) (formed-some rs g l (h .left))
+
+-- a row's operator is of that row's strength; past the table stands Or, the weakest
+strength-is : (row k : ℕ) → weakest < k → isOf k (entryIn row .operator) ≡ eqb (entryIn row .strength) k
+strength-is row k h =
+    by-test (ltb row 10)
+    (λ t. ap (λ (i : ℕ). eqb (entryIn i .strength) k) (row-is row (ltb-true row 10 t)))
+    (λ t. ap (λ (e : Entry). eqb (entryIn (rowOf (e .operator)) .strength) k) (none t) ∙ weaker ∙ ap (λ (e : Entry). eqb (e .strength) k) (sym (none t)))
+  where
+    none : ltb row 10 ≡ false → entryIn row ≡ noEntry
+    none t = lib.ListN.List·getD-eq-default table noEntry (ltb-false row 10 t)
+
+    weaker : eqb 1 k ≡ eqb 0 k
+    weaker = ne-eqb 1 k (λ e. omega arith) ∙ sym (ne-eqb 0 k (λ e. omega arith))
+
+module _ (rs : List Named) where
+  abbrev Good : Reading → Type 0
+  Good x = Reads (Formed rs) x
+
+  -- what the grammar makes of a name, a constant or the trees that it has read
+  limited-formed : (t : Expr) (p : ℕ) → (width t ≤ widest → Formed rs t) → Good (limited t p)
+  unfolding limited
+  limited-formed t p f = by-case Good (leb (width t) widest) (λ e. f (leb-true (width t) widest e)) (λ e. tt)
+
+  reference-formed : (s : List ℕ) (at : ℕ) (x : Reference) → referenceAt rs s at ≡ x → Good (ofReference x)
+  unfolding ofReference
+  reference-formed s at (Whole r w p) e =
+      let k = whole-known rs s at r w p e in
+      limited-formed (register r w) p (λ h. record { listed = k .0; width-is = k .1; narrow = h })
+  reference-formed s at (Part r w a b p) e =
+      let k = bits-known rs s at r w a b p e in
+      limited-formed (bitPart r w a b) p (λ h. record { listed = k .0; width-is = k .1; ordered = k .2; below = k .3; narrow = h })
+  reference-formed s at Unknown e = tt
+
+  constant-formed : (x : Constant) → Fitting x → Good (ofConstant x)
+  unfolding ofConstant
+  constant-formed (Found v w p) h = limited-formed (constant w v) p (λ n. record { some = h .some; narrow = n; fits = h .fits })
+  constant-formed Missing h = tt
+
+  not-formed : (x : Reading) → Good x → Good (notOf x)
+  unfolding notOf
+  not-formed (read t p) h = h
+  not-formed outside h = tt
+
+  closed-formed : (s : List ℕ) (close : ℕ) (x : Reading) → Good x → Good (closed s close x)
+  unfolding closed
+  closed-formed s close (read t p) h =
+      by-case Good (eqb (next s p) close) (λ e. by-case (Formed rs) (eqb close 93) (λ u. h) (λ u. h)) (λ e. tt)
+  closed-formed s close outside h = tt
+
+  turned-formed : (row : ℕ) (l : Expr) (n : Number) → isOf rotations (entryIn row .operator) ≡ true → Formed rs l → Good (turned row l n)
+  unfolding turned
+  turned-formed row l (Plain n p) o h = by-case Good (leb n 15) (λ e. record { rotation = o; few = leb-true n 15 e; side = h }) (λ e. tt)
+  turned-formed row l Unread o h = tt
+
+  joined-formed : (row : ℕ) (l : Expr) (x : Reading) → isOf strongest (entryIn row .operator) ≡ false → isOf rotations (entryIn row .operator) ≡ false
+      → Formed rs l → Good x → Good (joined row l x)
+  unfolding joined
+  joined-formed row l (read r p) n o h g =
+      limited-formed (binary (entryIn row .operator) l r) p (λ w. record { no-prefix = n; no-rotation = o; left = h; right = g; narrow = w })
+  joined-formed row l outside n o h g = tt
+
+  module _ (s : List ℕ) where
+    mutual
+      unfolding level more operation operand worded negated enclosed
+
+      level-formed : (f d k at : ℕ) → Good (level f rs s d k at)
+      level-formed zero d k at = tt
+      level-formed (suc f) d k at =
+          by-case Good (eqb k strongest)
+          (λ t. operand-formed f d at)
+          (λ t. more-formed f d k (level f rs s d (k + 1) at) t (level-formed f d (k + 1) at))
+
+      more-formed : (f d k : ℕ) (x : Reading) → eqb k strongest ≡ false → Good x → Good (more f rs s d k x)
+      more-formed zero d k x n h = tt
+      more-formed (suc f) d k (read l p) n h =
+          by-case Good (eqb (entryIn (operatorAt s p) .strength) k)
+          (λ t. more-formed f d k (operation f rs s d k l p) n (operation-formed f d k l p n (eqb-true (entryIn (operatorAt s p) .strength) k t) h))
+          (λ t. h)
+      more-formed (suc f) d k outside n h = tt
+
+      operation-formed : (f d k : ℕ) (l : Expr) (p : ℕ) → eqb k strongest ≡ false → entryIn (operatorAt s p) .strength ≡ k
+          → Formed rs l → Good (operation f rs s d k l p)
+      operation-formed zero d k l p n e h = tt
+      operation-formed (suc f) d k l p n e h =
+          by-case Good (eqb k rotations)
+          (λ t.
+          turned-formed (operatorAt s p) l (decimalAt s (skip s (operatorEnd s p)))
+          (strength-is (operatorAt s p) rotations (omega arith) ∙ ap (λ (i : ℕ). eqb i rotations) e ∙ t) h)
+          (λ t.
+          joined-formed (operatorAt s p) l (level f rs s d (k + 1) (operatorEnd s p))
+          (strength-is (operatorAt s p) strongest (omega arith) ∙ ap (λ (i : ℕ). eqb i strongest) e ∙ n)
+          (strength-is (operatorAt s p) rotations (omega arith) ∙ ap (λ (i : ℕ). eqb i rotations) e ∙ t)
+          h (level-formed f d (k + 1) (operatorEnd s p)))
+
+      operand-formed : (f d at : ℕ) → Good (operand f rs s d at)
+      operand-formed zero d at = tt
+      operand-formed (suc f) d at =
+          by-case Good (eqb (next s at) 40)
+          (λ t. enclosed-formed f d 41 (skip s at + 1))
+          (λ t.
+          by-case Good (isLetter (next s at))
+          (λ u. worded-formed f d (skip s at))
+          (λ u. constant-formed (constantAt s (skip s at)) (constant-fits s (skip s at))))
+
+      worded-formed : (f d at : ℕ) → Good (worded f rs s d at)
+      worded-formed zero d at = tt
+      worded-formed (suc f) d at =
+          by-case Good (same (slice s at (runEnd class.Word s at)) (78 ∷ 111 ∷ 116 ∷ []))
+          (λ t. negated-formed f d (runEnd class.Word s at))
+          (λ t.
+          by-case Good (same (slice s at (runEnd class.Word s at)) (77 ∷ []))
+          (λ u.
+          by-case Good (eqb (next s (runEnd class.Word s at)) 91)
+          (λ v. enclosed-formed f d 93 (skip s (runEnd class.Word s at) + 1))
+          (λ v. tt))
+          (λ u. reference-formed s at (referenceAt rs s at) refl))
+
+      negated-formed : (f d at : ℕ) → Good (negated f rs s d at)
+      negated-formed zero d at = tt
+      negated-formed (suc f) d at =
+          by-case Good (ltb d deepest)
+          (λ t. not-formed (level f rs s (d + 1) strongest at) (level-formed f (d + 1) strongest at))
+          (λ t. tt)
+
+      enclosed-formed : (f d close at : ℕ) → Good (enclosed f rs s d close at)
+      enclosed-formed zero d close at = tt
+      enclosed-formed (suc f) d close at =
+          by-case Good (ltb d deepest)
+          (λ t. closed-formed s close (level f rs s (d + 1) weakest at) (level-formed f (d + 1) weakest at))
+          (λ t. tt)
+
+    -- expressions
+    accepted : (t : Expr) → Formed rs t → leb (pieces t) mostPieces ≡ true → Accepted rs t
+    accepted t h e = record { formed = h; narrow = formed-narrow rs t h; few = leb-true (pieces t) mostPieces e }
+
+    whole-formed : (x : Reading) → Good x → Reads (Accepted rs) (whole s x)
+    unfolding whole
+    whole-formed (read t p) h =
+        by-case (Reads (Accepted rs)) (eqb p (length s) && leb (pieces t) mostPieces)
+        (λ e. accepted t h (and-right (eqb p (length s)) (leb (pieces t) mostPieces) e))
+        (λ e. tt)
+    whole-formed outside h = tt
+
+    pub expression-formed : Reads (Accepted rs) (expression rs s)
+    unfolding expression
+    expression-formed =
+        by-case (Reads (Accepted rs)) (trimmed s)
+        (λ t. whole-formed (level (fuel s) rs s 0 weakest 0) (level-formed (fuel s) 0 weakest 0))
+        (λ t. tt)
+
+    -- destinations
+    name-formed : (x : Reference) → referenceAt rs s 0 ≡ x → FormedDestination rs (ofName s x)
+    unfolding ofName
+    name-formed (Whole r w p) e =
+        let k = whole-known rs s 0 r w p e in
+        by-case (FormedDestination rs) (eqb p (length s)) (λ t. record { listed = k .0; width-is = k .1 }) (λ t. tt)
+    name-formed (Part r w a b p) e =
+        let k = bits-known rs s 0 r w a b p e in
+        by-case (FormedDestination rs) (eqb p (length s)) (λ t. record { listed = k .0; width-is = k .1; ordered = k .2; below = k .3 }) (λ t. tt)
+    name-formed Unknown e = tt
+
+    address-formed : (x : Reading) → Good x → FormedDestination rs (ofAddress s x)
+    unfolding ofAddress
+    address-formed (read t p) h =
+        by-case (FormedDestination rs) (eqb (next s p) 93 && eqb (skip s p + 1) (length s) && leb (pieces t) mostPieces)
+        (λ e. accepted t h (and-right (eqb (next s p) 93 && eqb (skip s p + 1) (length s)) (leb (pieces t) mostPieces) e))
+        (λ e. tt)
+    address-formed outside h = tt
+
+    memory-formed : (end : ℕ) → FormedDestination rs (memoryAt rs s end)
+    unfolding memoryAt
+    memory-formed end =
+        by-case (FormedDestination rs) (eqb (next s end) 91)
+        (λ t. address-formed (level (fuel s) rs s 0 weakest (skip s end + 1)) (level-formed (fuel s) 0 weakest (skip s end + 1)))
+        (λ t. tt)
+
+    pub destination-formed : FormedDestination rs (destination rs s)
+    unfolding destination
+    destination-formed =
+        by-case (FormedDestination rs) (trimmed s)
+        (λ t.
+        by-case (FormedDestination rs) (same (slice s 0 (runEnd class.Word s 0)) (77 ∷ []))
+        (λ u. memory-formed (runEnd class.Word s 0))
+        (λ u. name-formed (referenceAt rs s 0) refl))
+        (λ t. tt)
+
+    -- the bits of a part stand in their order, within the register
+    pub ordered : (r w a b : ℕ) → destination rs s ≡ toPart r w a b → (a ≤ b) × (b < w)
+    ordered r w a b e =
+        let k = subst (FormedDestination rs) e destination-formed in
+        (k .ordered, k .below)

@@ -1,0 +1,109 @@
+-- The laws of parts: what each word that is put into the table makes of what was read, over any tree.
+-- Assumes nothing.
+use mathlib.Core.Path.{_≡_, refl, sym, ap, _∙_}
+use mathlib.Core.List.{List, [], _∷_, _++_, append-assoc}
+use Prim.Native.Nat.{ℕ, zero, suc, _+_, _*_, _≤_, _<_}
+use native.Mathlib.Omega.{arith}
+use lib.ListN.{length, length-append}
+use lib.Seq.{sets}
+use borrow.Author.Tests.{le-leb, lt-leb}
+use Rattle.word.specs.Word.{widest}
+use Rattle.expression.specs.declared.code.Cursor.{Cursor}
+use Rattle.expression.specs.declared.code.Part.the-variants.{Found, Fault}
+use Rattle.token.specs.Operators.{rowOf, entryIn}
+use Rattle.expression.specs.Tree.{Expr, width, pieces}
+use Rattle.expression.specs.Grammar.{Reading, read, outside, limited}
+use Rattle.expression.specs.Code.{codeOf}
+use Rattle.expression.specs.Met.{Held, Leaf}
+use Rattle.token.proofs.Onward.{Past}
+use Rattle.expression.proofs.Calls.{met}
+use Rattle.expression.proofs.Stores.{sets-behind}
+
+-- "No width may pass 16"
+pub is-limited : (t : Expr) (p : ℕ) → width t ≤ widest → limited t p ≡ read t p
+unfolding limited
+is-limited t p h = rw (le-leb (width t) widest h, limited)
+
+pub too-wide : (t : Expr) (p : ℕ) → widest < width t → limited t p ≡ outside
+unfolding limited
+too-wide t p h = rw (lt-leb (width t) widest h, limited)
+
+-- the cursor behind one word and so many pieces more
+abbrev pub behind : Cursor → ℕ → ℕ → Cursor
+behind c p n = record { place = p; words = c .words + 1; pieces = c .pieces + n }
+
+-- a tree of one word
+pub alone : (t : Expr) (p k a b d : ℕ) (from : Cursor) (before : List ℕ) → codeOf t ≡ (k ∷ a ∷ b ∷ d ∷ []) → pieces t ≡ 1
+    → Held t p (behind from p 1) (width t) from before (sets before (4 * from .words) (k ∷ a ∷ b ∷ d ∷ []))
+alone t p k a b d from before e n =
+    record {
+      place-is = refl;
+      width-is = refl;
+      pieces-are = ap (λ (x : ℕ). from .pieces + x) (sym n);
+      words-are = omega (arith, ap length e);
+      code-is = ap (sets before (4 * from .words)) (sym e);
+    }
+
+-- a tree u that puts one word behind the words of t
+pub over : (t u : Expr) (p q k a b d n : ℕ) (c : Cursor) (w : ℕ) (from : Cursor) (before now : List ℕ)
+    → codeOf u ≡ codeOf t ++ (k ∷ a ∷ b ∷ d ∷ []) → pieces u ≡ pieces t + n → Held t p c w from before now
+    → Held u q (behind c q n) (width u) from before (sets now (4 * c .words) (k ∷ a ∷ b ∷ d ∷ []))
+over t u p q k a b d n c w from before now e m h =
+    record {
+      place-is = refl;
+      width-is = refl;
+      pieces-are = omega (arith, h .pieces-are);
+      words-are = omega (arith, h .words-are, ap length e, length-append (codeOf t) (k ∷ a ∷ b ∷ d ∷ []));
+      code-is =
+          ap (λ (l : List ℕ). sets l (4 * c .words) (k ∷ a ∷ b ∷ d ∷ [])) (h .code-is)
+          ∙ sets-behind before (4 * from .words) (4 * c .words) (codeOf t) (k ∷ a ∷ b ∷ d ∷ []) (h .words-are)
+          ∙ ap (sets before (4 * from .words)) (sym e);
+    }
+
+-- a tree u that puts one word behind the words of l and r
+pub over-both : (l r u : Expr) (p q k a b d x : ℕ) (left : Cursor) (w : ℕ) (right : Cursor) (v : ℕ) (from : Cursor) (before mid now : List ℕ)
+    → codeOf u ≡ codeOf l ++ codeOf r ++ (k ∷ a ∷ b ∷ d ∷ []) → pieces u ≡ pieces l + pieces r + 1
+    → Held l p left w from before mid → Held r q right v (record { place = x; words = left .words; pieces = left .pieces }) mid now
+    → Held u q (behind right (right .place) 1) (width u) from before (sets now (4 * right .words) (k ∷ a ∷ b ∷ d ∷ []))
+over-both l r u p q k a b d x left w right v from before mid now e m hl hr =
+    record {
+      place-is = hr .place-is;
+      width-is = refl;
+      pieces-are = omega (arith, hl .pieces-are, hr .pieces-are);
+      words-are = omega (arith, hl .words-are, hr .words-are, ap length e, length-append (codeOf l) (codeOf r), length-append (codeOf l ++ codeOf r) (k ∷ a ∷ b ∷ d ∷ []), length-append (codeOf l) (codeOf r ++ (k ∷ a ∷ b ∷ d ∷ [])), length-append (codeOf r) (k ∷ a ∷ b ∷ d ∷ []));
+      code-is =
+          ap (λ (z : List ℕ). sets z (4 * right .words) (k ∷ a ∷ b ∷ d ∷ [])) (hr .code-is)
+          ∙ sets-behind mid (4 * left .words) (4 * right .words) (codeOf r) (k ∷ a ∷ b ∷ d ∷ []) (hr .words-are)
+          ∙ ap (λ (z : List ℕ). sets z (4 * left .words) (codeOf r ++ (k ∷ a ∷ b ∷ d ∷ []))) (hl .code-is)
+          ∙ sets-behind before (4 * from .words) (4 * left .words) (codeOf l) (codeOf r ++ (k ∷ a ∷ b ∷ d ∷ [])) (hl .words-are)
+          ∙ ap (sets before (4 * from .words)) (sym (append-assoc (codeOf l) (codeOf r) (k ∷ a ∷ b ∷ d ∷ [])) ∙ sym e);
+    }
+
+-- a row's operator stands in that row
+pub row-is : (row : ℕ) → row < 10 → rowOf (entryIn row .operator) ≡ row
+row-is zero h = refl
+row-is (suc zero) h = refl
+row-is (suc (suc zero)) h = refl
+row-is (suc (suc (suc zero))) h = refl
+row-is (suc (suc (suc (suc zero)))) h = refl
+row-is (suc (suc (suc (suc (suc zero))))) h = refl
+row-is (suc (suc (suc (suc (suc (suc zero)))))) h = refl
+row-is (suc (suc (suc (suc (suc (suc (suc zero))))))) h = refl
+row-is (suc (suc (suc (suc (suc (suc (suc (suc zero)))))))) h = refl
+row-is (suc (suc (suc (suc (suc (suc (suc (suc (suc zero))))))))) h = refl
+row-is (suc (suc (suc (suc (suc (suc (suc (suc (suc (suc n)))))))))) h = absurd (omega arith)
+
+-- a leaf that was read, and one that wasn't
+module _ (x : Reading) (s : List ℕ) (from : Cursor) (before : List ℕ) where
+  pub leaf : (t : Expr) (p k a b d : ℕ) → x ≡ limited t p → codeOf t ≡ (k ∷ a ∷ b ∷ d ∷ []) → pieces t ≡ 1 → width t ≤ widest → Past s (from .place) p
+      → Leaf x s (from .place + 1) (from .words + 1) (from .pieces + 1) (Found (behind from p 1) (width t)) from before (sets before (4 * from .words) (k ∷ a ∷ b ∷ d ∷ []))
+  leaf t p k a b d e code n w o =
+      record {
+        meets =
+            met x (read t p) (Found (behind from p 1) (width t)) from before (sets before (4 * from .words) (k ∷ a ∷ b ∷ d ∷ [])) (e ∙ is-limited t p w)
+            (alone t p k a b d from before code n);
+        grown = record { onward = omega arith; inside = o .1; words-most = omega arith; pieces-most = omega arith; narrow = w };
+      }
+
+  pub no-leaf : (a words pieces : ℕ) (after : List ℕ) → x ≡ outside → Leaf x s a words pieces Fault from before after
+  no-leaf a words pieces after e = record { meets = met x outside Fault from before after e tt; grown = tt }

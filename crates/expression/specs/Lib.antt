@@ -1,0 +1,5 @@
+pub mod Tree
+pub mod Grammar
+pub mod Code
+pub mod Met
+pub mod Formed

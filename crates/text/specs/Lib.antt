@@ -1,0 +1,4 @@
+pub mod Bytes
+pub mod Fields
+pub mod Constants
+pub mod Names

@@ -1,0 +1,49 @@
+-- Names and labels: "1 to 20 letters, digits or dots, a letter first, case kept". A dictionary holds the places of names in a text, with a
+-- number for each: a register's width, a label's line.
+-- Assumes nothing.
+use Prim.Native.Nat.{ℕ, zero, suc, _+_}
+use mathlib.Core.Bool.{Bool, true, false, _&&_}
+use mathlib.Core.Path.{_≡_}
+use mathlib.Core.List.{List, [], _∷_, _++_}
+use lib.Dec.{eqb, leb}
+use lib.ListN.{length, getD, take, drop, replicate}
+use Rattle.text.specs.Bytes.{isLetter, runEnd, same}
+use Rattle.text.specs.declared.bytes.Class.the-variants.{Word}
+use Rattle.text.specs.declared.names.Dictionary.{Dictionary}
+
+abbrev pub longestName : ℕ
+longestName = 20
+
+unfoldable pub isName : List ℕ → Bool
+isName s = isLetter (getD s 0 0) && eqb (runEnd Word s 0) (length s) && leb (length s) longestName
+
+pub record Named : Type 0 where
+  pub name : List ℕ
+  pub number : ℕ
+
+-- the place of a name in a list, the list's length if it isn't there
+unfoldable pub find : List ℕ → List Named → ℕ
+find s [] = 0
+find s (e ∷ es) = elim (same (e .name) s) [ true ↦ 0 | false ↦ suc (find s es) ]
+
+-- entry i of a dictionary
+abbrev pub entryAt : List ℕ → Dictionary → ℕ → Named
+entryAt text d i = record { name = take (getD (d .lengths) i 0) (drop (getD (d .starts) i 0) text); number = getD (d .numbers) i 0 }
+
+-- n entries from i on
+unfoldable pub entriesFrom : List ℕ → Dictionary → ℕ → ℕ → List Named
+entriesFrom text d i zero = []
+entriesFrom text d i (suc n) = entryAt text d i ∷ entriesFrom text d (suc i) n
+
+-- the names that a dictionary tells of a text
+abbrev pub entries : List ℕ → Dictionary → List Named
+entries text d = entriesFrom text d 0 (d .count)
+
+-- the dictionary without names
+abbrev pub none : Dictionary
+none = record { count = 0; starts = replicate 32 0; lengths = replicate 32 0; numbers = replicate 32 0 }
+
+-- a dictionary r that has one name more than d, that of n bytes at a start, whatever the text is
+pub record Added (d : Dictionary) (start n number : ℕ) (r : Dictionary) : Type 0 where
+  pub count : r .count ≡ d .count + 1
+  pub entries-are : (text : List ℕ) → entries text r ≡ entries text d ++ (record { name = take n (drop start text); number = number } ∷ [])

@@ -1,0 +1,87 @@
+-- The laws of tokens: where they end, and that a byte that is there stands within the field.
+-- Assumes nothing.
+use mathlib.Core.Path.{_≡_, refl, sym, ap, _∙_}
+use mathlib.Core.Bool.{true, false}
+use mathlib.Core.List.{List, [], _∷_}
+use Prim.Native.Nat.{ℕ, zero, suc, _+_, _≤_, _<_}
+use native.Mathlib.Nat.{add-zero}
+use native.Mathlib.Omega.{arith}
+use lib.Dec.{ltb, eqb}
+use lib.ListN.{length, getD, List·getD-eq-default}
+use borrow.Author.Tests.{ltb-true, ltb-false, eq-eqb, ne-eqb}
+use Rattle.text.specs.Bytes.{isWord, belongs, runEnd}
+use Rattle.text.specs.Names.{Named, entryAt, entriesFrom, entries}
+use Rattle.text.specs.declared.names.Dictionary.{Dictionary}
+use Rattle.text.specs.declared.bytes.Class.{Class}
+use Rattle.text.specs.declared.bytes.Class.the-variants.{Word}
+use Rattle.text.proofs.Runs.{goes-on, onward, within}
+use Rattle.text.proofs.Tests.{by-test}
+use Rattle.token.specs.References.{skip, next, tokenEnd, widthIn}
+
+-- a byte that isn't 0 stands within
+pub present : (s : List ℕ) (at b : ℕ) → getD s at 0 ≡ b → 0 < b → at < length s
+present s at b e h =
+    by-test (ltb at (length s))
+    (λ t. ltb-true at (length s) t)
+    (λ t. absurd (omega (arith, List·getD-eq-default s 0 (ltb-false at (length s) t))))
+
+-- a run that starts with a byte of its class is not empty
+pub run-onward : (k : Class) (s : List ℕ) (at : ℕ) → at < length s → belongs k (getD s at 0) ≡ true → at < runEnd k s at
+run-onward k s at h e = omega (arith, goes-on k s at h e, onward k s (at + 1))
+
+module _ (s : List ℕ) (at : ℕ) where
+  pub word-end : isWord (getD s at 0) ≡ true → tokenEnd s at ≡ runEnd Word s at
+  unfolding tokenEnd
+  word-end e = rw (e, tokenEnd)
+
+  pub sign-end : isWord (getD s at 0) ≡ false → tokenEnd s at ≡ at + 1
+  unfolding tokenEnd
+  sign-end e = rw (e, tokenEnd)
+
+  pub token-onward : at ≤ tokenEnd s at
+  token-onward =
+      by-test (isWord (getD s at 0)) (λ e. omega (arith, word-end e, onward Word s at)) (λ e. omega (arith, sign-end e))
+
+  pub token-inside : at < length s → (at < tokenEnd s at) × (tokenEnd s at ≤ length s)
+  token-inside h =
+      by-test (isWord (getD s at 0))
+      (λ e. (omega (arith, word-end e, run-onward Word s at h e), omega (arith, word-end e, within Word s at (omega arith))))
+      (λ e. (omega (arith, sign-end e), omega (arith, sign-end e)))
+
+-- a dictionary's entries: how many, and each
+module _ (text : List ℕ) (d : Dictionary) where
+  counted : (n i : ℕ) → length (entriesFrom text d i n) ≡ n
+  unfolding entriesFrom
+  counted zero i = refl
+  counted (suc n) i = ap suc (counted n (suc i))
+
+  pub entries-length : length (entries text d) ≡ d .count
+  entries-length = counted (d .count) 0
+
+  entry-from : (n i j : ℕ) (z : Named) → j < n → getD (entriesFrom text d i n) j z ≡ entryAt text d (i + j)
+  unfolding entriesFrom
+  entry-from zero i j z h = absurd (omega arith)
+  entry-from (suc n) i zero z h = ap (entryAt text d) (sym (add-zero i))
+  entry-from (suc n) i (suc j) z h = entry-from n (suc i) j z (omega arith) ∙ ap (entryAt text d) (shift i j)
+    where
+      shift : (x y : ℕ) → suc x + y ≡ x + suc y
+      shift x y = omega arith
+
+  pub width-is : (r : ℕ) → r < d .count → widthIn (entries text d) r ≡ getD (d .numbers) r 0
+  width-is r h = ap (λ (e : Named). e .number) (entry-from (d .count) 0 r (record { name = []; number = 0 }) h) ∙ ap (λ (k : ℕ). getD (d .numbers) k 0) (zero-first r)
+    where
+      zero-first : (x : ℕ) → 0 + x ≡ x
+      zero-first x = omega arith
+
+-- within a list the default doesn't count
+pub any-default : {A : Type 0} (l : List A) (i : ℕ) (x y : A) → i < length l → getD l i x ≡ getD l i y
+any-default [] i x y h = absurd (omega arith)
+any-default (a ∷ l) zero x y h = refl
+any-default (a ∷ l) (suc i) x y h = any-default l i x y (omega arith)
+
+-- the byte that stands next, as the code finds it
+pub at-mark : (s : List ℕ) (p e x b : ℕ) → e ≡ skip s p → x ≡ getD s e 0 → x ≡ b → eqb (next s p) b ≡ true
+at-mark s p e x b he hx h = eq-eqb (next s p) b (ap (λ (k : ℕ). getD s k 0) (sym he) ∙ sym hx ∙ h)
+
+pub off-mark : (s : List ℕ) (p e x b : ℕ) → e ≡ skip s p → x ≡ getD s e 0 → (x ≡ b → ⊥) → eqb (next s p) b ≡ false
+off-mark s p e x b he hx h = ne-eqb (next s p) b (λ q. h (hx ∙ ap (λ (k : ℕ). getD s k 0) he ∙ q))

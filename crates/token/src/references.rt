@@ -1,0 +1,177 @@
+// Tokens, names and bit parts.
+use crate::operators;
+use text::bytes;
+use text::bytes::Class;
+use text::constants;
+use text::constants::Number;
+use text::names;
+use text::names::Dictionary;
+ghost use mathlib.Core.Path.{_≡_};
+ghost use Prim.Native.Nat.{_≤_, _<_};
+ghost use lib.ListN.{length};
+ghost use Rattle.text.specs.Names.{entries};
+ghost use Rattle.token.specs.References.{skip, tokenEnd, operatorAt, operatorEnd, secondBit, firstBit, spanAt, partOf, registerAt, referenceAt};
+
+// Bit numbers and the place after them.
+pub enum Span {
+    Bits { first: u16, last: u16, place: usize },
+    Bad,
+}
+
+// A register or a bit part of one, and the place after it.
+pub enum Reference {
+    Whole {
+        register: u16,
+        width: u16,
+        place: usize,
+    },
+    Part {
+        register: u16,
+        width: u16,
+        first: u16,
+        last: u16,
+        place: usize,
+    },
+    Unknown,
+}
+
+// The place of the next token.
+pub fn skip_spaces(s: &[u8], at: usize) -> usize
+    ensures { λ r. ⌜ r ≡ skip (now (s .entry)) at ⌝ }
+{
+    bytes::run_end(s, at, Class::Space)
+}
+
+// The place after the token at a place.
+fn token_end(s: &[u8], at: usize) -> usize
+    requires { ⌜ at ≤ length (now s) ⌝ }
+    ensures { λ r. ⌜ r ≡ tokenEnd (now (s .entry)) at ⌝ }
+{
+    if bytes::is_of(Class::Word, bytes::byte(s, at)) {
+        bytes::run_end(s, at, Class::Word)
+    } else {
+        at + 1
+    }
+}
+
+// The table's row of the operator that stands next, 10 if none does.
+pub fn operator_at(s: &[u8], at: usize) -> usize
+    requires { ⌜ at ≤ length (now s) ⌝ }
+    ensures { λ r. ⌜ r ≡ operatorAt (now (s .entry)) at ⌝ }
+{
+    let start = skip_spaces(s, at);
+    let end = token_end(s, start);
+    operators::operator_row(bytes::part(s, start, end - start))
+}
+
+// The place after the token that stands next.
+pub fn operator_end(s: &[u8], at: usize) -> usize
+    requires { ⌜ at ≤ length (now s) ⌝ }
+    ensures { λ r. ⌜ r ≡ operatorEnd (now (s .entry)) at ⌝ }
+{
+    token_end(s, skip_spaces(s, at))
+}
+
+// Bit numbers whose second one was read.
+fn second_bit(s: &[u8], first: u16, last: Number) -> Span
+    ensures { λ r. ⌜ r ≡ secondBit (now (s .entry)) first last ⌝ }
+{
+    match last {
+        Number::Plain { value, place } => {
+            let end = skip_spaces(s, place);
+            if bytes::byte(s, end) == b'>' {
+                Span::Bits {
+                    first: first,
+                    last: value,
+                    place: end + 1,
+                }
+            } else {
+                Span::Bad
+            }
+        }
+        Number::Unread => Span::Bad,
+    }
+}
+
+// Bit numbers whose first one was read.
+fn first_bit(s: &[u8], first: Number) -> Span
+    ensures { λ r. ⌜ r ≡ firstBit (now (s .entry)) first ⌝ }
+{
+    match first {
+        Number::Plain { value, place } => {
+            let end = skip_spaces(s, place);
+            let mark = bytes::byte(s, end);
+            if mark == b'>' {
+                return Span::Bits {
+                    first: value,
+                    last: value,
+                    place: end + 1,
+                };
+            }
+            if mark == b':' {
+                return second_bit(s, value, constants::decimal_at(s, skip_spaces(s, end + 1)));
+            }
+            Span::Bad
+        }
+        Number::Unread => Span::Bad,
+    }
+}
+
+// The bit numbers from the place after `<` on.
+fn span_at(s: &[u8], at: usize) -> Span
+    ensures { λ r. ⌜ r ≡ spanAt (now (s .entry)) at ⌝ }
+{
+    first_bit(s, constants::decimal_at(s, skip_spaces(s, at)))
+}
+
+// The bit part of a register.
+fn part_of(register: u16, width: u16, span: Span) -> Reference
+    ensures { λ r. ⌜ r ≡ partOf register width span ⌝ }
+{
+    match span {
+        Span::Bits { first, last, place } => {
+            if (first <= last) & (last < width) {
+                Reference::Part {
+                    register: register,
+                    width: width,
+                    first: first,
+                    last: last,
+                    place: place,
+                }
+            } else {
+                Reference::Unknown
+            }
+        }
+        Span::Bad => Reference::Unknown,
+    }
+}
+
+// The register whose name ends at a place, or a bit part of it.
+fn register_at(s: &[u8], register: u16, width: u16, end: usize) -> Reference
+    ensures { λ r. ⌜ r ≡ registerAt (now (s .entry)) register width end ⌝ }
+{
+    let mark = skip_spaces(s, end);
+    if bytes::byte(s, mark) == b'<' {
+        part_of(register, width, span_at(s, mark + 1))
+    } else {
+        Reference::Whole {
+            register: register,
+            width: width,
+            place: end,
+        }
+    }
+}
+
+// The register, or the bit part of one, that is named at a place.
+pub fn reference_at(text: &[u8], d: Dictionary, s: &[u8], at: usize) -> Reference
+    requires { ⌜ d .count ≤ 32 ⌝ }
+    ensures { λ r. ⌜ r ≡ referenceAt (entries (now (text .entry)) d) (now (s .entry)) at ⌝ }
+{
+    let end = bytes::run_end(s, at, Class::Word);
+    let register = names::place_of(text, d, bytes::part(s, at, end - at));
+    if register < d.count {
+        register_at(s, register as u16, names::number_of(d, register), end)
+    } else {
+        Reference::Unknown
+    }
+}

@@ -1,0 +1,351 @@
+-- What is accepted is formed: of each kind of line in turn, by induction on the lines.
+-- Assumes nothing.
+use mathlib.Core.Path.{_≡_, refl, sym, ap, subst, _∙_}
+use mathlib.Core.Bool.{Bool, true, false, not, _&&_, _||_}
+use mathlib.Core.List.{List, [], _∷_, _++_}
+use Prim.Native.Nat.{ℕ, zero, suc, _+_, _≤_, _<_}
+use native.Mathlib.Omega.{arith}
+use lib.Dec.{eqb, leb, ltb}
+use lib.ListN.{length, length-append}
+use borrow.Author.Tests.{ltb-true, leb-true, eqb-true}
+use Rattle.word.specs.Word.{widest}
+use Rattle.text.specs.Bytes.{same}
+use Rattle.text.specs.Fields.{Line, lineFeed, until, before, after, lines, field, hasFields}
+use Rattle.text.specs.Names.{Named, isName}
+use Rattle.text.specs.Constants.{decimalAt}
+use Rattle.text.proofs.Cases.{by-case}
+use Rattle.text.proofs.Tests.{by-test, and-left, and-right}
+use Rattle.expression.specs.Tree.{Expr}
+use Rattle.expression.specs.Grammar.{Reading, read, outside, expression, Destination, destination}
+use Rattle.expression.specs.Formed.{Registers, Accepted, Reads, FormedDestination}
+use Rattle.expression.proofs.Formed.{expression-formed, destination-formed}
+use Rattle.description.specs.declared.targets.Target.{Target}
+use Rattle.description.specs.declared.targets.Target.the-variants.{Passes, Missing}
+use Rattle.description.specs.Rows.{Row, does, goes, rowPieces, Description}
+use Rattle.description.specs.Lines.{mostBytes, mostRegisters, mostRows, mostLabels, allPieces, regWord, doWord, goWord, atWord, Progress, Step, refused, next, isFit, widthOf, endOf, isWidth, isNewName, addRegister, regLine, addRow, isSomewhere, RowReading, formed, unformed, doRow, withRow, doLine, isAt, isRow, further, passes, rowsPassed, missingAt, goRow, goLine, isNewLabel, addLabel, atLine, readLine}
+use Rattle.description.specs.Description.{Answer, accepted, turnedDown, header, nothing, hasRun, finished, readLines, readText}
+use Rattle.description.specs.Formed.{FormedRow, FormedRows, Lands, Lower, piecesOf, Formed, labelsIn, Keeps}
+
+-- strings that are the same are equal
+equal : (a b : List ℕ) → same a b ≡ true → a ≡ b
+unfolding same
+equal [] [] e = refl
+equal [] (y ∷ b) e = absurd (mathlib.Core.Bool.false≢true e)
+equal (x ∷ a) [] e = absurd (mathlib.Core.Bool.false≢true e)
+equal (x ∷ a) (y ∷ b) e =
+    ap (λ (k : ℕ). k ∷ a) (eqb-true x y (and-left (eqb x y) (same a b) e)) ∙ ap (λ (l : List ℕ). y ∷ l) (equal a b (and-right (eqb x y) (same a b) e))
+
+-- a first word is one of them
+module _ (s w : List ℕ) (e : same s w ≡ true) where
+  other : (v : List ℕ) → same w v ≡ false → same s v ≡ false
+  other v f = ap (λ (l : List ℕ). same l v) (equal s w e) ∙ f
+
+-- the rows among the lines
+rowsIn : List Line → ℕ
+rowsIn [] = 0
+rowsIn (l ∷ ls) = elim (isRow (l .bytes)) [ true ↦ suc (rowsIn ls) | false ↦ rowsIn ls ]
+
+module _ (l : Line) (ls : List Line) where
+  row-counted : isRow (l .bytes) ≡ true → rowsIn (l ∷ ls) ≡ suc (rowsIn ls)
+  unfolding rowsIn
+  row-counted e = rw (e, rowsIn)
+
+  row-not : isRow (l .bytes) ≡ false → rowsIn (l ∷ ls) ≡ rowsIn ls
+  unfolding rowsIn
+  row-not e = rw (e, rowsIn)
+
+  label-counted : same (field 0 (l .bytes)) atWord ≡ true → labelsIn (l ∷ ls) ≡ suc (labelsIn ls)
+  unfolding labelsIn
+  label-counted e = rw (e, labelsIn)
+
+  label-not : same (field 0 (l .bytes)) atWord ≡ false → labelsIn (l ∷ ls) ≡ labelsIn ls
+  unfolding labelsIn
+  label-not e = rw (e, labelsIn)
+
+-- a `go` passes over rows that are there
+further-le : (t : Target) (n : ℕ) → rowsPassed t ≤ n → rowsPassed (further 1 t) ≤ suc n
+further-le (Passes k) n h = omega arith
+further-le Missing n h = omega arith
+
+passes-le : (label : List ℕ) (ls : List Line) → rowsPassed (passes label ls) ≤ rowsIn ls
+unfolding passes rowsIn
+passes-le label [] = omega arith
+passes-le label (l ∷ ls) =
+    by-case (λ (t : Target). rowsPassed t ≤ rowsIn (l ∷ ls)) (isAt label (l .bytes)) (λ e. omega arith)
+    (λ e.
+    by-case (λ (t : Target). rowsPassed t ≤ rowsIn (l ∷ ls)) (isRow (l .bytes))
+    (λ f. subst (λ (n : ℕ). rowsPassed (further 1 (passes label ls)) ≤ n) (sym (row-counted l ls f)) (further-le (passes label ls) (rowsIn ls) (passes-le label ls)))
+    (λ f. subst (λ (n : ℕ). rowsPassed (passes label ls) ≤ n) (sym (row-not l ls f)) (passes-le label ls)))
+
+-- one more behind the others
+registers-snoc : (rs : List Named) (e : Named) → Registers rs → 1 ≤ e .number → e .number ≤ widest → Registers (rs ++ (e ∷ []))
+registers-snoc [] e h a b = record { some = a; narrow = b; others = tt }
+registers-snoc (r ∷ rs) e h a b = record { some = h .some; narrow = h .narrow; others = registers-snoc rs e (h .others) a b }
+
+rows-snoc : (rs : List Named) (rows : List Row) (row : Row) → FormedRows rs rows → FormedRow rs row → FormedRows rs (rows ++ (row ∷ []))
+rows-snoc rs [] row h k = record { first = k; others = tt }
+rows-snoc rs (r ∷ rows) row h k = record { first = h .first; others = rows-snoc rs rows row (h .others) k }
+
+lands-le : (r : Row) (m n : ℕ) → m ≤ n → Lands r m → Lands r n
+lands-le (does c d e) m n h k = tt
+lands-le (goes c j) m n h k = omega arith
+
+lower-snoc : (rows : List Row) (row : Row) (n : ℕ) → Lower (suc n) rows → Lands row n → Lower n (rows ++ (row ∷ []))
+lower-snoc [] row n h k = record { first = lands-le row n (0 + n) (omega arith) k; others = tt }
+lower-snoc (r ∷ rows) row n h k =
+    record {
+      first = lands-le r (length rows + suc n) (length (rows ++ (row ∷ [])) + n) (omega (arith, length-append rows (row ∷ []))) (h .first);
+      others = lower-snoc rows row n (h .others) k;
+    }
+
+pieces-snoc : (rows : List Row) (row : Row) → piecesOf (rows ++ (row ∷ [])) ≡ piecesOf rows + rowPieces row
+unfolding piecesOf
+pieces-snoc [] row = omega arith
+pieces-snoc (r ∷ rows) row = omega (arith, pieces-snoc rows row)
+
+-- what holds of what was read so far, above the lines that are left; `all` counts the labels of the text
+record Kept (all : ℕ) (p : Progress) (ls : List Line) : Type 0 where
+  few-registers : length (p .registers) ≤ mostRegisters
+  registers-fit : Registers (p .registers)
+  few-labels : length (p .labels) ≤ mostLabels
+  few-rows : length (p .rows) ≤ mostRows
+  pieces-are : p .pieces ≡ piecesOf (p .rows)
+  few-pieces : p .pieces ≤ allPieces
+  rows-formed : FormedRows (p .registers) (p .rows)
+  lower : Lower (rowsIn ls) (p .rows)
+  unbegun : p .begun ≡ false → p .rows ≡ []
+  labels-left : length (p .labels) + labelsIn ls ≡ all
+
+abbrev After : ℕ → List Line → Step → Type 0
+After all ls (refused f) = Unit {0}
+After all ls (next q) = Kept all q ls
+
+module _ (all : ℕ) (p : Progress) (l : Line) (ls : List Line) (h : Kept all p (l ∷ ls)) where
+  abbrev s : List ℕ
+  s = l .bytes
+
+  -- a register more: no row was before it
+  register-kept : p .begun ≡ false → isRow s ≡ false → same (field 0 s) atWord ≡ false → (n w : List ℕ) → After all ls (addRegister p n w)
+  unfolding addRegister
+  register-kept b r a n w =
+      by-case (After all ls) (isNewName (p .registers) n && isWidth w (decimalAt w 0))
+      (λ t.
+      by-case (After all ls) (ltb (length (p .registers)) mostRegisters)
+      (λ u.
+      let k = and-right (isNewName (p .registers) n) (isWidth w (decimalAt w 0)) t in
+      let j = and-left (leb 1 (widthOf (decimalAt w 0)) && leb (widthOf (decimalAt w 0)) widest) (eqb (endOf (decimalAt w 0)) (length w)) k in
+      record {
+        few-registers = omega (arith, length-append (p .registers) (record { name = n; number = widthOf (decimalAt w 0) } ∷ []), ltb-true (length (p .registers)) mostRegisters u);
+        registers-fit =
+            registers-snoc (p .registers) (record { name = n; number = widthOf (decimalAt w 0) }) (h .registers-fit)
+            (leb-true 1 (widthOf (decimalAt w 0)) (and-left (leb 1 (widthOf (decimalAt w 0))) (leb (widthOf (decimalAt w 0)) widest) j))
+            (leb-true (widthOf (decimalAt w 0)) widest (and-right (leb 1 (widthOf (decimalAt w 0))) (leb (widthOf (decimalAt w 0)) widest) j));
+        few-labels = h .few-labels;
+        few-rows = h .few-rows;
+        pieces-are = h .pieces-are;
+        few-pieces = h .few-pieces;
+        rows-formed = subst (λ (rows : List Row). FormedRows (p .registers ++ (record { name = n; number = widthOf (decimalAt w 0) } ∷ [])) rows) (sym (h .unbegun b)) tt;
+        lower = subst (λ (k : ℕ). Lower k (p .rows)) (row-not l ls r) (h .lower);
+        unbegun = h .unbegun;
+        labels-left = subst (λ (k : ℕ). length (p .labels) + k ≡ all) (label-not l ls a) (h .labels-left);
+      })
+      (λ u. tt))
+      (λ t. tt)
+
+  reg-kept : isRow s ≡ false → same (field 0 s) atWord ≡ false → After all ls (regLine p s)
+  unfolding regLine
+  reg-kept r a =
+      by-case (After all ls) (hasFields 3 s && not (p .begun))
+      (λ t. register-kept (turned (p .begun) (and-right (hasFields 3 s) (not (p .begun)) t)) r a (field 1 s) (field 2 s))
+      (λ t. tt)
+    where
+      turned : (b : Bool) → not b ≡ true → b ≡ false
+      turned true e = sym e
+      turned false e = refl
+
+  -- a label more
+  label-kept : isRow s ≡ false → same (field 0 s) atWord ≡ true → (n : List ℕ) → After all ls (addLabel p n)
+  unfolding addLabel
+  label-kept r a n =
+      by-case (After all ls) (isNewLabel (p .labels) (p .registers) n)
+      (λ t.
+      by-case (After all ls) (ltb (length (p .labels)) mostLabels)
+      (λ u.
+      record {
+        few-registers = h .few-registers;
+        registers-fit = h .registers-fit;
+        few-labels = omega (arith, length-append (p .labels) (record { name = n; number = 0 } ∷ []), ltb-true (length (p .labels)) mostLabels u);
+        few-rows = h .few-rows;
+        pieces-are = h .pieces-are;
+        few-pieces = h .few-pieces;
+        rows-formed = h .rows-formed;
+        lower = subst (λ (k : ℕ). Lower k (p .rows)) (row-not l ls r) (h .lower);
+        unbegun = λ e. absurd (mathlib.Core.Bool.false≢true (sym e));
+        labels-left = omega (arith, length-append (p .labels) (record { name = n; number = 0 } ∷ []), label-counted l ls a, h .labels-left);
+      })
+      (λ u. tt))
+      (λ t. tt)
+
+  at-kept : isRow s ≡ false → same (field 0 s) atWord ≡ true → After all ls (atLine p s)
+  unfolding atLine
+  at-kept r a = by-case (After all ls) (hasFields 2 s) (λ t. label-kept r a (field 1 s)) (λ t. tt)
+
+  -- a row more
+  row-kept : isRow s ≡ true → same (field 0 s) atWord ≡ false → (row : Row) (gone : ℕ) → FormedRow (p .registers) row → Lands row (rowsIn ls) → After all ls (addRow p row gone)
+  unfolding addRow
+  row-kept r a row gone f k =
+      by-case (After all ls) (ltb (length (p .rows)) mostRows && leb (p .pieces + rowPieces row) allPieces)
+      (λ t.
+      record {
+        few-registers = h .few-registers;
+        registers-fit = h .registers-fit;
+        few-labels = h .few-labels;
+        few-rows =
+            omega (arith, length-append (p .rows) (row ∷ []), ltb-true (length (p .rows)) mostRows (and-left (ltb (length (p .rows)) mostRows) (leb (p .pieces + rowPieces row) allPieces) t));
+        pieces-are = omega (arith, h .pieces-are, pieces-snoc (p .rows) row);
+        few-pieces = leb-true (p .pieces + rowPieces row) allPieces (and-right (ltb (length (p .rows)) mostRows) (leb (p .pieces + rowPieces row) allPieces) t);
+        rows-formed = rows-snoc (p .registers) (p .rows) row (h .rows-formed) f;
+        lower = lower-snoc (p .rows) row (rowsIn ls) (subst (λ (n : ℕ). Lower n (p .rows)) (row-counted l ls r) (h .lower)) k;
+        unbegun = λ e. absurd (mathlib.Core.Bool.false≢true (sym e));
+        labels-left = subst (λ (n : ℕ). length (p .labels) + n ≡ all) (label-not l ls a) (h .labels-left);
+      })
+      (λ t. tt)
+
+  abbrev rs : List Named
+  rs = p .registers
+
+  -- a `do` row
+  abbrev FormedReading : RowReading → Type 0
+  FormedReading (formed row) = FormedRow rs row × Lands row (rowsIn ls)
+  FormedReading unformed = Unit {0}
+
+  do-row-formed : (c : Reading) (d : Destination) (e : Reading) → Reads (Accepted rs) c → FormedDestination rs d → Reads (Accepted rs) e → FormedReading (doRow c d e)
+  unfolding doRow
+  do-row-formed (read c x) d (read e y) i j k =
+      by-case FormedReading (isSomewhere d) (λ t. (record { condition = i; somewhere = t; destination = j; value = k }, tt)) (λ t. tt)
+  do-row-formed (read c x) d outside i j k = tt
+  do-row-formed outside d e i j k = tt
+
+  with-kept : isRow s ≡ true → same (field 0 s) atWord ≡ false → (x : RowReading) → FormedReading x → After all ls (withRow p x)
+  unfolding withRow
+  with-kept r a (formed row) f = row-kept r a row (p .missing) (f .0) (f .1)
+  with-kept r a unformed f = tt
+
+  do-kept : isRow s ≡ true → same (field 0 s) atWord ≡ false → After all ls (doLine p s)
+  unfolding doLine
+  do-kept r a =
+      by-case (After all ls) (hasFields 4 s)
+      (λ t.
+      with-kept r a (doRow (expression rs (field 1 s)) (destination rs (field 2 s)) (expression rs (field 3 s)))
+      (do-row-formed (expression rs (field 1 s)) (destination rs (field 2 s)) (expression rs (field 3 s)) (expression-formed rs (field 1 s)) (destination-formed rs (field 2 s)) (expression-formed rs (field 3 s))))
+      (λ t. tt)
+
+  -- a `go` row
+  go-row-kept : isRow s ≡ true → same (field 0 s) atWord ≡ false → (n : ℕ) (label : List ℕ) (c : Reading) → Reads (Accepted rs) c → After all ls (goRow p n label (passes label ls) c)
+  unfolding goRow
+  go-row-kept r a n label (read c x) f =
+      by-case (After all ls) (isName label)
+      (λ t. row-kept r a (goes c (rowsPassed (passes label ls))) (missingAt (passes label ls) n (p .missing)) f (passes-le label ls))
+      (λ t. tt)
+  go-row-kept r a n label outside f = tt
+
+  go-kept : isRow s ≡ true → same (field 0 s) atWord ≡ false → (n : ℕ) → After all ls (goLine p n ls s)
+  unfolding goLine
+  go-kept r a n =
+      by-case (After all ls) (hasFields 3 s)
+      (λ t. go-row-kept r a n (field 2 s) (expression rs (field 1 s)) (expression-formed rs (field 1 s)))
+      (λ t. tt)
+
+  -- a line
+  abbrev word : List ℕ
+  word = field 0 s
+
+  neither : same word doWord ≡ false → same word goWord ≡ false → isRow s ≡ false
+  neither e f = rw (e, f)
+
+  line-kept : (n : ℕ) → After all ls (readLine p n ls l)
+  unfolding readLine same
+  line-kept n =
+      by-case (After all ls) (isFit l)
+      (λ t.
+      by-case (After all ls) (same word regWord)
+      (λ e. reg-kept (neither (other word regWord e doWord refl) (other word regWord e goWord refl)) (other word regWord e atWord refl))
+      (λ u.
+      by-case (After all ls) (same word doWord)
+      (λ e. do-kept (rw e) (other word doWord e atWord refl))
+      (λ v.
+      by-case (After all ls) (same word goWord)
+      (λ e. go-kept (rw (other word goWord e doWord refl, e)) (other word goWord e atWord refl) n)
+      (λ w. by-case (After all ls) (same word atWord) (λ e. at-kept (neither v w) e) (λ x. tt)))))
+      (λ t. tt)
+
+-- the whole text
+abbrev Ends : ℕ → Answer → Type 0
+Ends all (accepted d) = Formed d × (all ≤ mostLabels)
+Ends all (turnedDown f n) = Unit {0}
+
+finished-kept : (all : ℕ) (p : Progress) (n : ℕ) → Kept all p [] → Ends all (finished p n)
+unfolding finished rowsIn labelsIn
+finished-kept all p n h =
+    by-case (Ends all) (eqb (p .missing) 0)
+    (λ t.
+    by-case (Ends all) (hasRun (p .registers))
+    (λ u. (
+      record {
+        few-registers = h .few-registers;
+        registers-fit = h .registers-fit;
+        few-rows = h .few-rows;
+        few-pieces = subst (λ (k : ℕ). k ≤ allPieces) (h .pieces-are) (h .few-pieces);
+        rows-formed = h .rows-formed;
+        lower = h .lower;
+        has-run = u;
+      },
+      omega (arith, h .labels-left, h .few-labels),
+    ))
+    (λ u. tt))
+    (λ t. tt)
+
+lines-kept : (all : ℕ) (ls : List Line) (p : Progress) (n : ℕ) → Kept all p ls → Ends all (readLines p n ls)
+unfolding readLines
+lines-kept all [] p n h = finished-kept all p n h
+lines-kept all (l ∷ ls) p n h = go (λ q k. lines-kept all ls q (n + 1) k) (readLine p n ls l) (line-kept all p l ls h n)
+  where
+    go : ((q : Progress) → Kept all q ls → Ends all (readLines q (n + 1) ls)) → (x : Step) → After all ls x
+        → Ends all (elim x [ refused k ↦ turnedDown k n | next q ↦ readLines q (n + 1) ls ])
+    go i (refused f) k = tt
+    go i (next q) k = i q k
+
+start-kept : (ls : List Line) → Kept (labelsIn ls) nothing ls
+unfolding piecesOf
+start-kept ls =
+    record {
+      few-registers = omega arith;
+      registers-fit = tt;
+      few-labels = omega arith;
+      few-rows = omega arith;
+      pieces-are = refl;
+      few-pieces = omega arith;
+      rows-formed = tt;
+      lower = tt;
+      unbegun = λ e. refl;
+      labels-left = omega arith;
+    }
+
+text-kept : (s : List ℕ) → Ends (labelsIn (lines (after lineFeed s))) (readText s)
+unfolding readText
+text-kept s =
+    by-case (Ends (labelsIn (lines (after lineFeed s)))) (leb (length s) mostBytes)
+    (λ t.
+    by-case (Ends (labelsIn (lines (after lineFeed s)))) (same (before lineFeed s) header)
+    (λ u.
+    by-case (Ends (labelsIn (lines (after lineFeed s)))) (ltb (until lineFeed s) (length s))
+    (λ v. lines-kept (labelsIn (lines (after lineFeed s))) (lines (after lineFeed s)) nothing 2 (start-kept (lines (after lineFeed s))))
+    (λ v. tt))
+    (λ u. tt))
+    (λ t. tt)
+
+-- a description that is accepted keeps every limit
+pub accepted-keeps : (s : List ℕ) (d : Description) → readText s ≡ accepted d → Keeps d (lines (after lineFeed s))
+accepted-keeps s d e =
+    let k = subst (Ends (labelsIn (lines (after lineFeed s)))) e (text-kept s) in
+    record { formed = k .0; few-labels = k .1 }

@@ -1,0 +1,65 @@
+-- A description's text, whole: the description that it says, or what it is turned down for and the line.
+-- Assumes nothing.
+use Prim.Native.Nat.{ℕ, _+_}
+use mathlib.Core.Bool.{Bool, true, false, _&&_}
+use mathlib.Core.List.{List, [], _∷_}
+use lib.Dec.{eqb, leb, ltb}
+use lib.ListN.{length}
+use Rattle.text.specs.Bytes.{same}
+use Rattle.text.specs.Fields as text
+use Rattle.text.specs.Fields.{lineFeed, until, before, after, lines}
+use Rattle.text.specs.Names.{Named, find}
+use Rattle.token.specs.References.{widthIn}
+use Rattle.description.specs.declared.faults.Fault.{Fault}
+use Rattle.description.specs.declared.faults.Fault.the-variants.{Size, Header, Line, Label, Run}
+use Rattle.description.specs.Rows.{Description}
+use Rattle.description.specs.Lines.{mostBytes, Progress, refused, next, readLine}
+
+-- "The answer is the number and line."
+pub data Answer : Type 0 where
+  accepted : Description → Answer
+  turnedDown : Fault → ℕ → Answer
+
+-- "`rows`, TAB, `1`"
+abbrev pub header : List ℕ
+header = 114 ∷ 111 ∷ 119 ∷ 115 ∷ 9 ∷ 49 ∷ []
+
+abbrev pub runName : List ℕ
+runName = 82 ∷ 85 ∷ 78 ∷ []
+
+abbrev pub nothing : Progress
+nothing = record { registers = []; labels = []; rows = []; pieces = 0; begun = false; missing = 0 }
+
+-- "register RUN of width 1"
+abbrev pub hasRun : List Named → Bool
+hasRun rs = ltb (find runName rs) (length rs) && eqb (widthIn rs (find runName rs)) 1
+
+-- "Missing `go` targets are looked for after all lines, lowest line first, then 8" at the "line after the last", which is n
+unfoldable pub finished : Progress → ℕ → Answer
+finished p n =
+    elim (eqb (p .missing) 0) [
+      | true ↦
+          elim (hasRun (p .registers)) [ true ↦ accepted (record { registers = p .registers; rows = p .rows }) | false ↦ turnedDown Run n ]
+      | false ↦ turnedDown Label (p .missing)
+    ]
+
+-- "Lines are taken in order", from line n on
+unfoldable pub readLines : Progress → ℕ → List text.Line → Answer
+readLines p n [] = finished p n
+readLines p n (l ∷ ls) = elim (readLine p n ls l) [ refused k ↦ turnedDown k n | next q ↦ readLines q (n + 1) ls ]
+
+-- "The first line must be exactly `rows`, TAB, `1`"; "text over 16,384 bytes (line 0)"
+unfoldable pub readText : List ℕ → Answer
+readText s =
+    elim (leb (length s) mostBytes) [
+      | true ↦
+          elim (same (before lineFeed s) header) [
+            | true ↦
+                elim (ltb (until lineFeed s) (length s)) [
+                  | true ↦ readLines nothing 2 (lines (after lineFeed s))
+                  | false ↦ turnedDown Line 1
+                ]
+            | false ↦ turnedDown Header 1
+          ]
+      | false ↦ turnedDown Size 0
+    ]

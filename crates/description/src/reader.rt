@@ -1,0 +1,180 @@
+// The whole text: line by line, then what is looked for after all lines.
+use crate::faults::Fault;
+use crate::limits;
+use crate::limits::TABLE_CELLS;
+use crate::lines;
+use crate::lines::Progress;
+use crate::lines::Status;
+use crate::lines::Step;
+use crate::rows;
+use text::bytes;
+use text::bytes::Class;
+use text::fields;
+use text::fields::LINE_FEED;
+use text::names;
+use text::names::Dictionary;
+ghost use mathlib.Core.Path.{_≡_};
+ghost use Prim.Native.Nat.{_+_, _≤_};
+ghost use lib.Dec.{ltb};
+ghost use lib.ListN.{length};
+ghost use Rattle.text.specs.Fields.{lineFeed, until, before, after, lines};
+ghost use Rattle.text.specs.Names.{entries};
+ghost use Rattle.description.specs.declared.reader.Verdict.the-variants as verdict;
+ghost use Rattle.description.specs.Lines.{mostBytes, isFit, readLine};
+ghost use Rattle.description.specs.Description.{nothing, hasRun, readLines, readText};
+ghost use Rattle.description.specs.Stored.{firstLine, unread, Within, Takes, Rest, Finishes, Answers};
+
+// What a text comes to.
+pub enum Verdict {
+    Accepted,
+    // what for, and the line
+    Refused(Fault, usize),
+}
+
+// The verdict, and of an accepted text the registers, with their widths, and the number of rows.
+pub struct Answer {
+    pub registers: Dictionary,
+    pub rows: usize,
+    pub verdict: Verdict,
+}
+
+// Whether there is a register RUN of width 1.
+fn has_run(text: &[u8], registers: Dictionary) -> bool
+    ensures { λ r. ⌜ r ≡ hasRun (entries (now (text .entry)) registers) ⌝ }
+{
+    let i = names::place_of(text, registers, b"RUN");
+    (i < registers.count) & (names::number_of(registers, i) == 1)
+}
+
+// The verdict after all lines, of which n would be the next.
+fn verdict_of(text: &[u8], q: Progress, n: usize) -> Verdict
+    ensures { λ r. ⌜ Finishes (now (text .entry)) q n r ⌝ }
+{
+    if q.missing != 0 {
+        return Verdict::Refused(Fault::Label, q.missing);
+    }
+    if has_run(text, q.registers) {
+        Verdict::Accepted
+    } else {
+        Verdict::Refused(Fault::Run, n)
+    }
+}
+
+// Whether the first line of a rest ends with LF, is short enough, and holds only bytes that a line may hold.
+fn is_fit(line: &[u8], rest: &[u8]) -> bool
+    requires { ⌜ now line ≡ before lineFeed (now rest) ⌝ }
+    ensures { λ r. ⌜ r ≡ isFit (record { bytes = now (line .entry); ended = ltb (until lineFeed (now (rest .entry))) (length (now (rest .entry))) }) ⌝ }
+{
+    let end = bytes::run_end(line, 0, Class::Printable);
+    (line.len() < rest.len()) & (line.len() <= limits::LINE_BYTES) & (end == line.len())
+}
+
+// Line n, with which the rest of the text begins.
+fn read_line(
+    text: &[u8],
+    q: Progress,
+    n: usize,
+    rest: &[u8],
+    code: &mut [u16; 4896],
+    table: &mut [u16; TABLE_CELLS],
+) -> Step
+    requires { ⌜ Within q ⌝ ∗ ⌜ length (now text) ≤ mostBytes ⌝ ∗ ⌜ Rest (now text) (now rest) ⌝ }
+    ensures { λ r. ⌜ Takes (now (text .entry)) (λ p. readLine p n (lines (after lineFeed (now (rest .entry)))) (firstLine (now (rest .entry)))) q r
+        (now (code .entry)) (now (code .exit)) (now (table .entry)) (now (table .exit)) ⌝ }
+{
+    let line = fields::part_before(rest, LINE_FEED);
+    if !is_fit(line, rest) {
+        return lines::refused(q, Fault::Line);
+    }
+    let word = fields::field_of(line, 0);
+    if bytes::is_same(word, b"reg") {
+        return lines::reg_line(text, q, text.len() - rest.len(), line);
+    }
+    if bytes::is_same(word, b"do") {
+        return rows::do_line(text, q, line, code, table);
+    }
+    if bytes::is_same(word, b"go") {
+        let below = fields::part_after(rest, LINE_FEED);
+        return rows::go_line(text, q, n, line, below, code, table);
+    }
+    if bytes::is_same(word, b"at") {
+        return lines::at_line(text, q, text.len() - rest.len(), line);
+    }
+    lines::refused(q, Fault::Line)
+}
+
+// Nothing read yet.
+fn start() -> Progress
+    ensures { λ r. ⌜ r ≡ unread ⌝ }
+{
+    Progress {
+        registers: names::empty(),
+        labels: names::empty(),
+        rows: 0,
+        words: 0,
+        pieces: 0,
+        begun: false,
+        missing: 0,
+    }
+}
+
+// An answer that accepts nothing.
+fn turned_down(f: Fault, line: usize) -> Answer
+    ensures { λ r. ⌜ r .verdict ≡ verdict.Refused f line ⌝ }
+{
+    Answer {
+        registers: names::empty(),
+        rows: 0,
+        verdict: Verdict::Refused(f, line),
+    }
+}
+
+// The lines below the header.
+fn read_lines(text: &[u8], code: &mut [u16; 4896], table: &mut [u16; TABLE_CELLS]) -> Answer
+    requires { ⌜ length (now text) ≤ mostBytes ⌝ }
+    ensures { λ r. ⌜ Answers (now (text .entry)) (readLines nothing 2 (lines (after lineFeed (now (text .entry))))) r
+        (now (code .entry)) (now (code .exit)) (now (table .entry)) (now (table .exit)) ⌝ }
+{
+    let mut rest = fields::part_after(text, LINE_FEED);
+    let mut q = start();
+    let mut n = 2;
+    while 0 < rest.len() {
+        let step = read_line(text, q, n, rest, code, table);
+        let status = step.status;
+        match status {
+            Status::Goes => {
+                q = step.progress;
+            }
+            Status::Refused(f) => return turned_down(f, n),
+        }
+        let below = fields::part_after(rest, LINE_FEED);
+        rest = below;
+        n += 1;
+    }
+    let verdict = verdict_of(text, q, n);
+    let registers = q.registers;
+    Answer {
+        registers: registers,
+        rows: q.rows,
+        verdict: verdict,
+    }
+}
+
+// Reads a description: what it says goes into the lent tables.
+pub fn read(text: &[u8], code: &mut [u16; 4896], table: &mut [u16; TABLE_CELLS]) -> Answer
+    ensures { λ r. ⌜ Answers (now (text .entry)) (readText (now (text .entry))) r
+        (now (code .entry)) (now (code .exit)) (now (table .entry)) (now (table .exit)) ⌝ }
+{
+    if limits::TEXT_BYTES < text.len() {
+        return turned_down(Fault::Size, 0);
+    }
+    let header = fields::part_before(text, LINE_FEED);
+    if !bytes::is_same(header, b"rows\t1") {
+        return turned_down(Fault::Header, 1);
+    }
+    if header.len() < text.len() {
+        read_lines(text, code, table)
+    } else {
+        turned_down(Fault::Line, 1)
+    }
+}

@@ -11,10 +11,10 @@ use Rattle.state.specs.declared.Reason.{Reason}
 use Rattle.state.specs.declared.Refusal.{Refusal}
 use Rattle.state.specs.declared.Refusal.the-variants.{MemoryLength, Word, Register, Budget, RowList}
 use Rattle.machine.specs.declared.Machine.{Machine}
-use Rattle.pdp8.specs.declared.Answer.{Answer}
-use Rattle.pdp8.specs.declared.Answer.the-variants.{Ran, Refused}
+use Rattle.emulator.specs.declared.Answer.{Answer}
+use Rattle.emulator.specs.declared.Answer.the-variants.{Ran, Refused}
 use Rattle.machine.specs.State.{values}
-use Rattle.pdp8.specs.Emulate.{Report, report, emulate}
+use Rattle.emulator.specs.Emulate.{Report, report, emulate}
 use Rattle.guavachisel.specs.Emulation.{machineOf, outcomeOf, Emulated}
 
 -- six numbers are what they are read as

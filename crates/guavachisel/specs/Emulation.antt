@@ -7,7 +7,7 @@ use lib.ListN.{getD}
 use Rattle.word.specs.Choice.{choose}
 use Rattle.machine.specs.declared.Machine.{Machine}
 use Rattle.machine.specs.State.{values}
-use Rattle.pdp8.specs.Emulate.{Report, emulate}
+use Rattle.emulator.specs.Emulate.{Report, emulate}
 
 -- "registers: LAC, PC, RUN, INTERRUPT.ENABLE, INTERRUPT.REQUEST, SWITCHES"
 abbrev pub machineOf : List ℕ → Machine

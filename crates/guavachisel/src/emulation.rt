@@ -1,6 +1,7 @@
 // The emulator for C callers: guavachisel_emulate of include/guavachisel.h.
+use crate::numbers;
+use emulator::Answer;
 use machine::Machine;
-use pdp8::Answer;
 ghost use mathlib.Core.Path.{_≡_};
 ghost use Rattle.machine.specs.State.{values};
 ghost use Rattle.guavachisel.specs.Emulation.{Emulated};
@@ -29,13 +30,13 @@ pub extern "C" fn guavachisel_emulate(
 )
     ensures { λ r. ⌜ Emulated (now (memory .entry)) (now (registers .entry)) budget (now (memory .exit)) (now (registers .exit)) (now (outcome .exit)) ⌝ }
 {
-    match pdp8::emulate::emulate(memory, loaded(*registers), budget) {
+    match emulator::emulate(memory, loaded(*registers), budget) {
         Answer::Ran(m, why, steps) => {
             *registers = [m.lac, m.pc, m.run, m.enable, m.request, m.switches];
-            *outcome = [0, steps, state::reason_number(why)];
+            *outcome = [0, steps, numbers::reason_number(why)];
         }
         Answer::Refused(why) => {
-            *outcome = [state::refusal_number(why), state::refusal_place(why), 0];
+            *outcome = [numbers::refusal_number(why), numbers::refusal_place(why), 0];
         }
     }
 }

@@ -1,4 +1,4 @@
-// The rotations of the first group.
+// The rotations of the first group: the bits that leave LAC at one end change places with the others.
 ghost use mathlib.Core.Path.{_≡_};
 ghost use Prim.Native.Nat.{_^_, _<_};
 ghost use Rattle.machine.specs.State.{lacBits};
@@ -18,9 +18,9 @@ pub fn turn_left(i: u64, lac: u64) -> u64
     if i / RAL % 2 == 0 {
         lac
     } else if i / TWICE % 2 != 0 {
-        word::rotated_left(13, 2, lac)
+        word::swap(11, 2, lac)
     } else {
-        word::rotated_left(13, 1, lac)
+        word::swap(12, 1, lac)
     }
 }
 
@@ -32,8 +32,8 @@ pub fn turn_right(i: u64, lac: u64) -> u64
     if i / RAR % 2 == 0 {
         lac
     } else if i / TWICE % 2 != 0 {
-        word::rotated_right(13, 2, lac)
+        word::swap(2, 11, lac)
     } else {
-        word::rotated_right(13, 1, lac)
+        word::swap(1, 12, lac)
     }
 }

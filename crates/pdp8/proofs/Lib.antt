@@ -1,4 +1,4 @@
-pub mod Checked
 pub mod Keeps
 pub mod Marked
 pub mod Runs
+pub mod Steps

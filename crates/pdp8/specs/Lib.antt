@@ -1,4 +1,3 @@
 pub mod Step
 pub mod Run
-pub mod Emulate
 pub mod Marked

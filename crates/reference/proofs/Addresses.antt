@@ -1,20 +1,21 @@
--- Addresses stay within memory, and working one out leaves memory acceptable.
+-- Addresses stay within memory, and working one out leaves memory acceptable; the two ways through working one out.
 -- Assumes nothing.
 use mathlib.Core.List.{List}
-use mathlib.Core.Path.{_≡_, ap}
+use mathlib.Core.Path.{_≡_, sym, ap, _∙_}
+use mathlib.Core.Bool.{Bool, true, false}
 use Prim.Native.Nat.{ℕ, _/_, _%_, _^_, _<_}
 use native.Mathlib.Nat.{div-one}
 use native.Mathlib.Omega.{arith}
 use lib.Dec.{eqb}
 use lib.ListN.{getD}
 use Rattle.word.specs.Word.{wordBits, bits}
-use Rattle.word.specs.Choice.{choose}
+use Rattle.word.specs.Choice.{on, pick, choose}
 use Rattle.word.proofs.Choice.{pick-either, choose-either}
 use Rattle.word.proofs.Next.{next-lt}
 use Rattle.state.specs.Acceptable.{Acceptable}
 use Rattle.state.proofs.Accepted.{store-acceptable}
 use Rattle.machine.specs.Instruction.{ib, pb, pa}
-use Rattle.reference.specs.Address.{firstAddress, indexed, effective, afterIndexing}
+use Rattle.reference.specs.Address.{firstAddress, indexed, effective, afterIndexing, Addressed}
 
 -- pa stands at the right end of the instruction
 pub pa-is : (i : ℕ) → pa i ≡ i % 2 ^ 7
@@ -42,3 +43,29 @@ effective-lt i last m =
 pub afterIndexing-acceptable : (i last : ℕ) {memory : List ℕ} → Acceptable memory → Acceptable (afterIndexing i last memory)
 unfolding afterIndexing
 afterIndexing-acceptable i last m = choose-either Acceptable (ib i) (indexed-acceptable (firstAddress i last) m) m
+
+module _ (i last first : ℕ) (before : List ℕ) (found : first ≡ firstAddress i last) where
+  -- ib = 1: the word at the first address, after auto-indexing
+  pub indirect : (after : List ℕ) (e : ℕ) → on (ib i) ≡ true → after ≡ indexed first before → e ≡ getD after first 0 → Addressed i last before after e
+  unfolding effective afterIndexing
+  indirect after e set indexing read =
+      record {
+        address =
+            read
+            ∙ ap (λ (m : List ℕ). getD m first 0) indexing
+            ∙ ap (λ (a : ℕ). getD (indexed a before) a 0) found
+            ∙ sym (ap (λ (t : Bool). pick t (getD (indexed (firstAddress i last) before) (firstAddress i last) 0) (firstAddress i last)) set);
+        memory =
+            indexing
+            ∙ ap (λ (a : ℕ). indexed a before) found
+            ∙ sym (ap (λ (t : Bool). pick t (indexed (firstAddress i last) before) before) set);
+      }
+
+  -- ib = 0: the first address itself
+  pub direct : on (ib i) ≡ false → Addressed i last before before first
+  unfolding effective afterIndexing
+  direct clear =
+      record {
+        address = found ∙ sym (ap (λ (t : Bool). pick t (getD (indexed (firstAddress i last) before) (firstAddress i last) 0) (firstAddress i last)) clear);
+        memory = sym (ap (λ (t : Bool). pick t (indexed (firstAddress i last) before) before) clear);
+      }

@@ -8,6 +8,7 @@ use lib.Dec.{eqb, ltb}
 use Rattle.word.specs.Choice.{pick}
 use Rattle.word.specs.Word.{fits, wordBits}
 use Rattle.state.specs.Limits.{memoryWords, budgetLimit, rowPlaces}
+use Rattle.state.specs.Refusals.{orElse}
 use Rattle.state.specs.declared.Refusal.the-variants.{MemoryLength, Word, Register, Budget, RowList}
 use Rattle.state.specs.declared.Verdict.{Verdict}
 use Rattle.state.specs.declared.Verdict.the-variants.{Fit, Unfit}
@@ -41,6 +42,10 @@ checkRegisters widths values =
 -- "14 budget above 1,000,000"
 abbrev pub checkBudget : ℕ → Verdict
 checkBudget budget = pick (ltb budgetLimit budget) (Unfit Budget) Fit
+
+-- "in this order": 11 and 12, 13, 14
+abbrev pub checkState : List ℕ → List ℕ → List ℕ → ℕ → Verdict
+checkState widths values memory budget = orElse (checkMemory memory) (orElse (checkRegisters widths values) (checkBudget budget))
 
 -- "15 (evaluator) row list shorter than 128 places"
 abbrev pub checkRowList : ℕ → Verdict

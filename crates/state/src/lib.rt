@@ -4,8 +4,8 @@ ghost use Prim.Native.Nat.{ℕ, _≤_};
 ghost use mathlib.Core.Path.{_≡_};
 ghost use lib.ListN.{getD};
 ghost use Rattle.word.specs.Word.{widest, fits};
-ghost use Rattle.state.specs.Checks.{firstUnfit, checkMemory, checkRegisters, checkBudget, checkRowList};
-ghost use Rattle.state.specs.Refusals.{orElse, reasonNumber, numberOf, placeOf};
+ghost use Rattle.state.specs.Checks.{firstUnfit, checkMemory, checkRegisters, checkBudget, checkState, checkRowList};
+ghost use Rattle.state.specs.Refusals.{orElse};
 
 pub const MEMORY_WORDS: usize = 4096;
 
@@ -86,7 +86,7 @@ pub fn check_memory(memory: &[u16]) -> Verdict
 }
 
 // 13.
-pub fn check_registers(widths: &[u64], values: &[u16]) -> Verdict
+fn check_registers(widths: &[u64], values: &[u16]) -> Verdict
     requires { ⌜ ((k : ℕ) → getD (now widths) k 0 ≤ widest) ⌝ }
     ensures { λ r. ⌜ r ≡ checkRegisters (now (widths .entry)) (now (values .entry)) ⌝ }
 {
@@ -99,7 +99,7 @@ pub fn check_registers(widths: &[u64], values: &[u16]) -> Verdict
 }
 
 // 14.
-pub fn check_budget(budget: u64) -> Verdict
+fn check_budget(budget: u64) -> Verdict
     ensures { λ r. ⌜ r ≡ checkBudget budget ⌝ }
 {
     if BUDGET_LIMIT < budget {
@@ -107,6 +107,25 @@ pub fn check_budget(budget: u64) -> Verdict
     } else {
         Verdict::Fit
     }
+}
+
+// The first of two checks' refusals.
+fn or_else(first: Verdict, later: Verdict) -> Verdict
+    ensures { λ r. ⌜ r ≡ orElse first later ⌝ }
+{
+    match first {
+        Verdict::Fit => later,
+        Verdict::Unfit(why) => Verdict::Unfit(why),
+    }
+}
+
+// 11 to 14, in this order.
+pub fn check_state(memory: &[u16], widths: &[u64], values: &[u16], budget: u64) -> Verdict
+    requires { ⌜ ((k : ℕ) → getD (now widths) k 0 ≤ widest) ⌝ }
+    ensures { λ r. ⌜ r ≡ checkState (now (widths .entry)) (now (values .entry)) (now (memory .entry)) budget ⌝ }
+{
+    let later = or_else(check_registers(widths, values), check_budget(budget));
+    or_else(check_memory(memory), later)
 }
 
 // 15.
@@ -117,51 +136,5 @@ pub fn check_row_list(places: usize) -> Verdict
         Verdict::Unfit(Refusal::RowList)
     } else {
         Verdict::Fit
-    }
-}
-
-// The first of two checks' refusals.
-pub fn or_else(first: Verdict, later: Verdict) -> Verdict
-    ensures { λ r. ⌜ r ≡ orElse first later ⌝ }
-{
-    match first {
-        Verdict::Fit => later,
-        Verdict::Unfit(why) => Verdict::Unfit(why),
-    }
-}
-
-// A reason's number in the C interface.
-pub fn reason_number(reason: Reason) -> u64
-    ensures { λ r. ⌜ r ≡ reasonNumber reason ⌝ }
-{
-    match reason {
-        Reason::Halted => 1,
-        Reason::Spent => 2,
-    }
-}
-
-// A refusal's number.
-pub fn refusal_number(refusal: Refusal) -> u64
-    ensures { λ r. ⌜ r ≡ numberOf refusal ⌝ }
-{
-    match refusal {
-        Refusal::MemoryLength => 11,
-        Refusal::Word(_) => 12,
-        Refusal::Register(_) => 13,
-        Refusal::Budget => 14,
-        Refusal::RowList => 15,
-    }
-}
-
-// A refusal's place.
-pub fn refusal_place(refusal: Refusal) -> u64
-    ensures { λ r. ⌜ r ≡ placeOf refusal ⌝ }
-{
-    match refusal {
-        Refusal::MemoryLength => 0,
-        Refusal::Word(place) => place as u64,
-        Refusal::Register(place) => place as u64,
-        Refusal::Budget => 0,
-        Refusal::RowList => 0,
     }
 }

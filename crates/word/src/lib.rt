@@ -1,7 +1,7 @@
 // Words of 1 to 16 bits, held in u64 numbers. Bit 0 is the leftmost bit.
 ghost use mathlib.Core.Path.{_≡_};
 ghost use Prim.Native.Nat.{_+_, _^_, _≤_, _<_};
-ghost use Rattle.word.specs.Word.{widest, fits, bits, withBits, join, complement, swapped, rotatedLeft, rotatedRight, next};
+ghost use Rattle.word.specs.Word.{widest, fits, bits, withBits, join, complement, swapped, next};
 ghost use Rattle.word.specs.Power.{Power};
 
 // The place value of the bit that has n bits on its right.
@@ -56,29 +56,13 @@ pub fn complemented(w: u64, x: u64) -> u64
     power(w) - 1 - x
 }
 
-// The p bits at the right end of x and the q bits before them, changing places.
-fn swap(p: u64, q: u64, x: u64) -> u64
+// The p bits at the right end of x and the q bits before them, changing places: a rotation of p + q bits, q places to the left.
+pub fn swap(p: u64, q: u64, x: u64) -> u64
     requires { ⌜ p + q ≤ widest ⌝ ∗ ⌜ x < 2 ^ widest ⌝ }
     ensures { λ r. ⌜ r ≡ swapped p q x ⌝ }
 {
     let seam = power(p);
     x % seam * power(q) + x / seam
-}
-
-// x, a word of w bits, rotated n places to the left.
-pub fn rotated_left(w: u64, n: u64, x: u64) -> u64
-    requires { ⌜ 0 < w ⌝ ∗ ⌜ w ≤ widest ⌝ ∗ ⌜ x < 2 ^ widest ⌝ }
-    ensures { λ r. ⌜ r ≡ rotatedLeft w n x ⌝ }
-{
-    swap(w - n % w, n % w, x)
-}
-
-// x, a word of w bits, rotated n places to the right.
-pub fn rotated_right(w: u64, n: u64, x: u64) -> u64
-    requires { ⌜ 0 < w ⌝ ∗ ⌜ w ≤ widest ⌝ ∗ ⌜ x < 2 ^ widest ⌝ }
-    ensures { λ r. ⌜ r ≡ rotatedRight w n x ⌝ }
-{
-    swap(n % w, w - n % w, x)
 }
 
 // The word after x, modulo 4,096: the one increment of words and of PC.

@@ -7,8 +7,7 @@ use Rattle.machine.specs.Interrupt.{interruptTest}
 use mathlib.Core.List.{List}
 use Rattle.machine.specs.Instruction.{op}
 use Rattle.reference.specs.Address.{afterIndexing}
-use Rattle.reference.specs.Reference.{operation}
-use Rattle.reference.specs.Reference.{reference}
+use Rattle.reference.specs.Reference.{operation, reference}
 use Rattle.reference.proofs.Addresses.{effective-lt}
 use Rattle.reference.proofs.Keeps.{indexing-good}
 use borrow.Author.Needs.{needs}

@@ -1,5 +1,13 @@
 -- `interrupt::interrupt_test`: the code's test is the definition's.
-use Rattle.machine.specs.Interrupt.{interruptTest}
+use mathlib.Core.Path.{sym, ap, _∙_}
+use mathlib.Core.Bool.{_&&_}
+use mathlib.Core.List.{List}
+use Prim.Native.Nat.{ℕ}
+use denote.Ref.{now}
+use Rattle.word.specs.Choice.{on}
+use Rattle.word.proofs.Choice.{case-true, case-false}
+use Rattle.machine.specs.State.{at, withPc, withEnable, withMemory}
+use Rattle.machine.specs.Interrupt.{interrupted, interruptTest}
 use borrow.Author.Needs.{needs}
 use Rattle.machine.proofs.interrupt.interrupt_test.Statement.{statement}
 use Rattle.machine.proofs.interrupt.interrupt_test.Tie as tie
@@ -12,11 +20,18 @@ same-length c = search needs
 
 returns : tie.Need-returns
 unfolding interruptTest
-returns c = rw (c .before .before .before .before .if1 .taken, interruptTest) (cc)
+returns c =
+    let begin = c .before .before .before .before .before .before .before .before .args in
+    let s = at (begin .p) (now (begin .memory)) in
+    ap (λ (m : List ℕ). withEnable 0 (withPc 1 (withMemory m s))) (c .before .before .store .ensures)
+    ∙ sym (case-true (on (s .enable) && on (s .request)) (interrupted s) s (c .before .before .before .before .if1 .taken))
 
 returns-2 : tie.Need-returns-2
 unfolding interruptTest
-returns-2 c = rw (c .if1 .left, interruptTest)
+returns-2 c =
+    let begin = c .before .before .before .before .args in
+    let s = at (begin .p) (now (begin .memory)) in
+    sym (case-false (on (s .enable) && on (s .request)) (interrupted s) s (c .if1 .left))
 
 pub interrupt-test-spec : {M : Type 1} → statement M
 interrupt-test-spec = tie.close (tie.spec store-requires same-length returns returns-2)

@@ -1,7 +1,6 @@
 -- `operate::change` calls what its definition names, in its order; each change keeps LAC within 13 bits.
 use mathlib.Core.Path.{ap, _∙_}
-use Rattle.operate.specs.Operate.{linkCleared, complemented, linkComplemented, increased}
-use Rattle.operate.specs.Operate.{changed}
+use Rattle.operate.specs.Operate.{linkCleared, complemented, linkComplemented, increased, changed}
 use Rattle.operate.proofs.Changes.{cleared-lt, linkCleared-lt, complemented-lt, linkComplemented-lt}
 use borrow.Author.Needs.{needs}
 use Rattle.operate.proofs.accumulator.change.Statement.{statement}

@@ -4,8 +4,7 @@ use Prim.Native.Nat.{ℕ}
 use denote.Ref.{now}
 use Rattle.machine.specs.State.{at, withLac}
 use Rattle.machine.specs.Interrupt.{interruptTest}
-use Rattle.operate.specs.Operate.{turnedLeft, turnedRight}
-use Rattle.operate.specs.Operate.{group1, rotated}
+use Rattle.operate.specs.Operate.{turnedLeft, turnedRight, group1, rotated}
 use Rattle.operate.proofs.Changes.{changed-lt, turnedLeft-lt}
 use borrow.Author.Needs.{needs}
 use Rattle.operate.proofs.groups.first_group.Statement.{statement}

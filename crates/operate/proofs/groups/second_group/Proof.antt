@@ -5,11 +5,10 @@ use Rattle.machine.specs.Interrupt.{interruptTest}
 use Rattle.word.specs.Choice.{pick}
 use Rattle.word.specs.Word.{next}
 use Rattle.machine.specs.State.{at, withLac, withPc, withRun}
-use Rattle.operate.specs.Operate.{cleared, switched}
+use Rattle.operate.specs.Operate.{cleared, switched, skips, group2}
 use native.Mathlib.Omega.{arith}
 use Prim.Native.Nat.{ℕ, _^_, _<_}
 use Rattle.word.proofs.Choice.{pick-either}
-use Rattle.operate.specs.Operate.{skips, group2}
 use Rattle.operate.proofs.Changes.{cleared-lt}
 use Rattle.word.proofs.Next.{next-lt}
 use borrow.Author.Needs.{needs}

@@ -1,5 +1,12 @@
 -- `address::auto_index`: the code's test is the definition's.
+use mathlib.Core.Path.{sym, ap, _∙_}
+use mathlib.Core.Bool.{Bool}
+use Prim.Native.Nat.{ℕ}
+use denote.Ref.{now}
+use lib.ListN.{getD, set}
 use borrow.Author.Tests.{eq-eqb, ne-eqb}
+use Rattle.word.specs.Choice.{pick}
+use Rattle.word.specs.Word.{next}
 use Rattle.reference.specs.Address.{indexed}
 use borrow.Author.Needs.{needs}
 use Rattle.reference.proofs.address.auto_index.Statement.{statement}
@@ -19,11 +26,19 @@ same-length c = search needs
 
 returns : tie.Need-returns
 unfolding indexed
-returns c = simp (eq-eqb _ _ (c .before .before .before .before .before .before .before .if1 .taken)) (cc)
+returns c =
+    let begin = c .before .before .before .before .before .before .before .before .before .args in
+    let m = now (begin .memory) in
+    c .before .before .store .ensures
+    ∙ ap (λ (x : ℕ). set m (begin .a) x) (c .before .before .before .increment .ensures ∙ ap next (c .before .before .before .before .before .load .ensures))
+    ∙ sym (ap (λ (t : Bool). pick t (set m (begin .a) (next (getD m (begin .a) 0))) m) (eq-eqb _ _ (c .before .before .before .before .before .before .before .if1 .taken)))
 
 returns-2 : tie.Need-returns-2
 unfolding indexed
-returns-2 c = simp (ne-eqb _ _ (c .if1 .left))
+returns-2 c =
+    let begin = c .before .before .args in
+    let m = now (begin .memory) in
+    sym (ap (λ (t : Bool). pick t (set m (begin .a) (next (getD m (begin .a) 0))) m) (ne-eqb _ _ (c .if1 .left)))
 
 pub auto-index-spec : {M : Type 1} → statement M
 auto-index-spec =

@@ -1,8 +1,10 @@
 -- `address::effective_address`: the code's test is the definition's.
+use mathlib.Core.Path.{ap}
+use mathlib.Core.Bool.{not}
+use denote.Ref.{now}
 use native.Mathlib.Omega.{arith}
 use borrow.Author.Tests.{eq-eqb, ne-eqb}
-use Rattle.reference.specs.Address.{effective, afterIndexing}
-use Rattle.reference.proofs.Addresses.{firstAddress-lt}
+use Rattle.reference.proofs.Addresses.{firstAddress-lt, indirect, direct}
 use borrow.Author.Needs.{needs}
 use Rattle.reference.proofs.address.effective_address.Statement.{statement}
 use Rattle.reference.proofs.address.effective_address.Tie as tie
@@ -22,12 +24,17 @@ same-length : tie.Need-same-length
 same-length c = search needs
 
 returns : tie.Need-returns
-unfolding effective afterIndexing
-returns c = let taken = ne-eqb _ _ (c .before .before .before .before .before .before .if1 .taken) in record { address = simp taken (cc); memory = simp taken (cc) }
+returns c =
+    let begin = c .before .before .before .before .before .before .before .before .before .args in
+    indirect (begin .i) (begin .last) _ (now (begin .memory)) (c .before .before .before .before .before .before .before .first-address .ensures) _ _
+    (ap not (ne-eqb _ _ (c .before .before .before .before .before .before .if1 .taken)))
+    (c .before .before .before .before .auto-index .ensures)
+    (c .load .ensures)
 
 returns-2 : tie.Need-returns-2
-unfolding effective afterIndexing
-returns-2 c = let left = eq-eqb _ _ (c .if1 .left) in record { address = simp left (cc); memory = simp left }
+returns-2 c =
+    let begin = c .before .before .before .args in
+    direct (begin .i) (begin .last) _ (now (begin .memory)) (c .before .first-address .ensures) (ap not (eq-eqb _ _ (c .if1 .left)))
 
 pub effective-address-spec : {M : Type 1} → statement M
 effective-address-spec =

@@ -5,10 +5,8 @@ use denote.Ref.{now}
 use Rattle.word.specs.Word.{wordBits}
 use Rattle.machine.specs.State.{at, word, withLac, withAc}
 use Rattle.machine.specs.Interrupt.{interruptTest}
-use lib.Bits.{bitAnd}
+use lib.Bits.{bitAnd, and-le-l}
 use native.Mathlib.Omega.{arith}
-use Prim.Native.Nat.{_%_}
-use lib.Bits.{and-le-l}
 use Rattle.machine.proofs.Lac.{ac-is}
 use borrow.Author.Needs.{needs}
 use Rattle.reference.proofs.operations.and_to.Statement.{statement}

@@ -1,0 +1,59 @@
+-- The emulator's checks find nothing exactly where every word and register fits and the budget is within its limit: so a run starts from a
+-- good state, and no good state is turned down.
+-- Assumes nothing.
+use mathlib.Core.Path.{_≡_}
+use mathlib.Core.List.{List}
+use Prim.Native.Nat.{ℕ, zero, suc, _≤_, _<_, _^_}
+use lib.Dec.{lit≤, lit<}
+use lib.ListN.{getD}
+use Rattle.word.specs.Word.{widest}
+use Rattle.state.specs.Limits.{budgetLimit}
+use Rattle.state.specs.Refusals.{orElse}
+use Rattle.state.specs.Checks.{checkMemory, checkRegisters, checkBudget, checkState}
+use Rattle.state.specs.Acceptable.{Fitting}
+use Rattle.state.specs.declared.Verdict.the-variants.{Fit}
+use Rattle.state.proofs.Accepted.{memory-acceptable, acceptable-memory, registers-fitting, fitting-registers, within-budget, both-fit}
+use Rattle.machine.specs.declared.Machine.{Machine}
+use Rattle.machine.specs.State.{widths, values, start, Good}
+
+-- no register is wider than 16 bits
+pub widths-small : (k : ℕ) → getD widths k 0 ≤ widest
+widths-small zero = lit≤ tt
+widths-small (suc zero) = lit≤ tt
+widths-small (suc (suc zero)) = lit≤ tt
+widths-small (suc (suc (suc zero))) = lit≤ tt
+widths-small (suc (suc (suc (suc zero)))) = lit≤ tt
+widths-small (suc (suc (suc (suc (suc zero))))) = lit≤ tt
+widths-small (suc (suc (suc (suc (suc (suc k)))))) = lit≤ tt
+
+pub checked-good : (m : Machine) (memory : List ℕ) (budget : ℕ) → checkState widths (values m) memory budget ≡ Fit → Good (start m memory)
+checked-good m memory budget e =
+    let first = both-fit (checkMemory memory) (orElse (checkRegisters widths (values m)) (checkBudget budget)) e in
+    let second = both-fit (checkRegisters widths (values m)) (checkBudget budget) (first .1) in
+    let fit = registers-fitting widths (values m) (second .0) .narrow in
+    record {
+      lac = fit 0;
+      pc = fit 1;
+      run = fit 2;
+      enable = fit 3;
+      request = fit 4;
+      switches = fit 5;
+      memory = memory-acceptable memory (first .0);
+    }
+
+-- the values of a good state fit their places
+good-fitting : (m : Machine) (memory : List ℕ) → Good (start m memory) → Fitting widths (values m)
+good-fitting m memory g = record { narrow = at }
+  where
+    at : (k : ℕ) → getD (values m) k 0 < 2 ^ getD widths k 0
+    at zero = g .lac
+    at (suc zero) = g .pc
+    at (suc (suc zero)) = g .run
+    at (suc (suc (suc zero))) = g .enable
+    at (suc (suc (suc (suc zero)))) = g .request
+    at (suc (suc (suc (suc (suc zero))))) = g .switches
+    at (suc (suc (suc (suc (suc (suc k)))))) = lit< tt
+
+pub good-checked : (m : Machine) (memory : List ℕ) (budget : ℕ) → Good (start m memory) → budget ≤ budgetLimit → checkState widths (values m) memory budget ≡ Fit
+good-checked m memory budget g h =
+    rw (acceptable-memory memory (g .memory), fitting-registers widths (values m) (good-fitting m memory g), within-budget budget h)

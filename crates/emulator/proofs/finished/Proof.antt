@@ -1,0 +1,39 @@
+-- `emulator::finished`: the run starts from the caller's registers and ends narrow, so that they can be handed back.
+use mathlib.Core.Path.{sym, ap, _∙_, subst}
+use denote.Ref.{now}
+use Rattle.machine.specs.declared.Machine.{Machine}
+use Rattle.machine.specs.State.{start, Good}
+use Rattle.pdp8.specs.Run.{Run, run}
+use Rattle.emulator.specs.Emulate.{finished}
+use Rattle.machine.proofs.Keeps.{good-narrow}
+use Rattle.pdp8.proofs.Runs.{run-good}
+use borrow.Author.Needs.{needs}
+use Rattle.emulator.proofs.finished.Statement.{statement}
+use Rattle.emulator.proofs.finished.Tie as tie
+
+opened-requires : tie.Need-opened-requires
+opened-requires c κs = search needs
+
+run-requires : tie.Need-run-requires
+run-requires c κs = subst (λ (m : Machine). Good (start m (now (c .before .before .before .args .memory)))) (sym (c .opened .ensures)) (c .before .before .before .pre)
+
+closed-requires : tie.Need-closed-requires
+closed-requires c κs = let begin = c .before .before .before .before .before .before .before in
+    let good = subst (λ (m : Machine). Good (start m (now (begin .args .memory)))) (sym (c .before .before .before .before .opened .ensures)) (begin .pre) in
+    good-narrow (subst Good (sym (ap (λ (r : Run). r .state) (c .before .before .before .run .ensures))) (run-good (begin .args .budget) good))
+
+reason-requires : tie.Need-reason-requires
+reason-requires c κs = search needs
+
+same-length : tie.Need-same-length
+same-length c = search needs
+
+returns : tie.Need-returns
+returns c = let begin = c .before .before .before .before .before .before .before .before .before in
+    rw (c .before .closed .ensures, c .reason .ensures)
+    (ap finished (c .before .before .before .before .before .run .ensures) ∙ ap (λ (m : Machine). finished (run (begin .args .budget) (start m (now (begin .args .memory))))) (c .before .before .before .before .before .before .opened .ensures))
+
+pub finished-spec : {M : Type 1} → statement M
+finished-spec =
+    tie.close
+    (tie.spec opened-requires run-requires closed-requires reason-requires same-length returns)

@@ -1,0 +1,41 @@
+// The numbers by which C callers know reasons and refusals.
+use state::Reason;
+use state::Refusal;
+ghost use mathlib.Core.Path.{_≡_};
+ghost use Rattle.state.specs.Refusals.{reasonNumber, numberOf, placeOf};
+
+// A reason's number.
+pub fn reason_number(reason: Reason) -> u64
+    ensures { λ r. ⌜ r ≡ reasonNumber reason ⌝ }
+{
+    match reason {
+        Reason::Halted => 1,
+        Reason::Spent => 2,
+    }
+}
+
+// A refusal's number.
+pub fn refusal_number(refusal: Refusal) -> u64
+    ensures { λ r. ⌜ r ≡ numberOf refusal ⌝ }
+{
+    match refusal {
+        Refusal::MemoryLength => 11,
+        Refusal::Word(_) => 12,
+        Refusal::Register(_) => 13,
+        Refusal::Budget => 14,
+        Refusal::RowList => 15,
+    }
+}
+
+// A refusal's place.
+pub fn refusal_place(refusal: Refusal) -> u64
+    ensures { λ r. ⌜ r ≡ placeOf refusal ⌝ }
+{
+    match refusal {
+        Refusal::MemoryLength => 0,
+        Refusal::Word(place) => place as u64,
+        Refusal::Register(place) => place as u64,
+        Refusal::Budget => 0,
+        Refusal::RowList => 0,
+    }
+}

@@ -1,10 +1,4 @@
-pub mod Pass
-pub mod Form
-pub mod Cut
-pub mod ByLines
-pub mod Sound
-pub mod Writing
-pub mod Numbers
+pub mod ByText
 pub mod Sizes
 pub mod Rest
 pub mod Day

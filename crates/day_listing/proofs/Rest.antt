@@ -16,8 +16,9 @@ use Rattle.pdp8.specs.Step.{step}
 use Rattle.pdp8.specs.Run.{runFrom, run}
 use Rattle.pdp8.proofs.Keeps.{step-good}
 use Rattle.day_listing.specs.Listing.{budget, ready, heading, stepLine, stepLines, endLine, runListing}
-use Rattle.day_listing.specs.Written.{Written, Stepped}
-use Rattle.day_listing.proofs.Writing.{written-none, written-then}
+use Rattle.page.specs.Written.{Written}
+use Rattle.day_listing.specs.Stepped.{Stepped}
+use Rattle.page.proofs.Writing.{written-none, written-then}
 use Rattle.day_listing.proofs.Sizes.{step-line-size}
 
 -- `left` steps of the budget are left, and `done` steps have been done
@@ -61,11 +62,12 @@ listed-none s page at g =
 
 module _ {s₀ s : State} {page₀ page after : List ℕ} {at₀ at done end : ℕ} (l : Listed s₀ page₀ at₀ s page at done) where
   -- one step more
-  pub listed-more : {t : State} → done < budget → on (s .run) ≡ true → Stepped (done + 1) s t page at after end → Listed s₀ page₀ at₀ t after end (done + 1)
+  pub listed-more : {t : State} {next : ℕ} → done < budget → on (s .run) ≡ true → Stepped done next s t page at after end → Listed s₀ page₀ at₀ t after end next
   listed-more {t} h e w =
       let line = stepLine (done + 1) (s .pc) (word (s .pc) s) (t .lac) (t .run) in
       let left : budget - done - 1 ≡ budget - (done + 1) = omega arith in
-      record {
+      subst (λ (n : ℕ). Listed s₀ page₀ at₀ t after end n) (sym (w .count))
+      (record {
         text = l .text ++ line;
         written = written-then (l .text) line (l .written) (w .line);
         whole =
@@ -74,7 +76,7 @@ module _ {s₀ s : State} {page₀ page after : List ℕ} {at₀ at done end : �
         good = subst Good (sym (w .state)) (step-good (l .good));
         count = omega arith;
         room = omega (arith, w .line .place, step-line-size (done + 1) (s .pc) (word (s .pc) s) (t .lac) (t .run) (omega arith));
-      }
+      })
 
   -- the last line
   pub listed-all : (budget ≤ done) ⊎ (s .run ≡ 0) → Written (endLine done (choose (s .run) Spent Halted)) page at after end

@@ -7,9 +7,9 @@ use native.Mathlib.Omega.{arith}
 use lib.ListN.{length, length-append}
 use Rattle.state.specs.declared.Reason.{Reason}
 use Rattle.state.specs.declared.Reason.the-variants.{Halted, Spent}
-use Rattle.day_listing.specs.Text.{ascii, tab, lineFeed, octal, decimal}
+use Rattle.page.specs.Text.{ascii, tab, lineFeed, octal, decimal}
 use Rattle.day_listing.specs.Listing.{stepLine, reasonWord, endLine}
-use Rattle.day_listing.proofs.Numbers.{octal-length, decimal-length}
+use Rattle.page.proofs.Numbers.{octal-length, decimal-length}
 
 -- the numbers of a step's line
 pub record Sizes (n pc i lac run : ℕ) : Type 0 where

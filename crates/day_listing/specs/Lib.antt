@@ -1,5 +1,2 @@
-pub mod Text
-pub mod Input
 pub mod Listing
-pub mod Scan
-pub mod Written
+pub mod Stepped

@@ -3,24 +3,22 @@
 use mathlib.Core.List.{List, [], _∷_, _++_}
 use mathlib.Core.Bool.{true, false}
 use Prim.Native.Nat.{ℕ, zero, suc}
-use lib.ListN.{replicate}
-use Rattle.word.specs.Choice.{on}
-use Rattle.state.specs.Limits.{memoryWords}
+use Rattle.word.specs.Choice.{on, choose}
+use Rattle.state.specs.Checks.{checkMemory}
 use Rattle.state.specs.declared.Reason.{Reason}
 use Rattle.state.specs.declared.Reason.the-variants.{Halted, Spent}
+use Rattle.state.specs.declared.Verdict.{Verdict}
+use Rattle.state.specs.declared.Verdict.the-variants.{Fit, Unfit}
 use Rattle.machine.specs.State.{State, word}
 use Rattle.pdp8.specs.Step.{step}
 use Rattle.pdp8.specs.Run.{run}
-use Rattle.day_listing.specs.Text.{ascii, tab, lineFeed, octal, decimal}
-use Rattle.day_listing.specs.Input.{linesOf, loaded, firstUnfit}
+use Rattle.page.specs.Text.{ascii, tab, lineFeed, octal, decimal}
+use Rattle.image.specs.Input.{linesOf, clear, loaded, firstUnfit}
+use Rattle.image.specs.Scan.{Scan, unfitLine}
 
 -- "the budget is 16"
 abbrev pub budget : ℕ
 budget = 16
-
--- "Other words .. are 0"
-unfoldable pub clear : List ℕ
-clear = replicate memoryWords 0
 
 -- "all registers are 0, except PC = 0200 and RUN = 1"
 abbrev pub ready : List ℕ → State
@@ -71,3 +69,13 @@ listingOf (suc n) memory = refusedLine (suc n)
 -- the output for an input
 unfoldable pub dayListing : List ℕ → List ℕ
 dayListing text = listingOf (firstUnfit 1 (linesOf text)) (loaded (linesOf text) clear)
+
+-- "Memory that meets neither 11 nor 12 is acceptable": by the check's verdict. No text leaves another memory; it has no run, and nothing is listed.
+abbrev pub checkedListing : Verdict → List ℕ → List ℕ
+checkedListing Fit memory = runListing memory
+checkedListing (Unfit why) memory = []
+
+-- the output where the input ends, for whatever scanner and memory are held then. The law `scan-listing` says that after a text this is the text's.
+unfoldable pub scanListing : Scan → List ℕ
+scanListing s =
+    choose (unfitLine (s .scanner)) (refusedLine (unfitLine (s .scanner))) (checkedListing (checkMemory (s .memory)) (s .memory))

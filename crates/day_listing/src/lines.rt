@@ -1,29 +1,17 @@
 // The lines of the listing.
 use crate::PAGE_BYTES;
-use crate::put::put_byte;
-use crate::put::put_decimal;
-use crate::put::put_octal;
-use crate::put::put_text;
+use page::put_byte;
+use page::put_decimal;
+use page::put_field;
+use page::put_text;
 ghost use Prim.Native.Nat.{_+_, _<_, _≤_};
-ghost use mathlib.Core.List.{_∷_};
 ghost use Rattle.word.specs.Choice.{choose};
 ghost use Rattle.state.specs.declared.Reason.the-variants.{Halted, Spent};
-ghost use Rattle.day_listing.specs.Text.{tab, octal};
 ghost use Rattle.day_listing.specs.Listing.{stepLine, endLine, refusedLine};
-ghost use Rattle.day_listing.specs.Written.{pageBytes, Written, Page};
-
-const TAB: u8 = 9;
+ghost use Rattle.page.specs.Written.{Written, Page};
+ghost use Rattle.day_listing.specs.Stepped.{pageBytes};
 
 const LINE_FEED: u8 = 10;
-
-// TAB and the last n octal digits of x.
-fn put_field(page: &mut [u8; PAGE_BYTES], at: usize, n: u64, x: u64) -> usize
-    requires { ⌜ at + n < pageBytes ⌝ }
-    ensures { λ r. ⌜ Written (tab ∷ octal n x) (now (page .entry)) at (now (page .exit)) r ⌝ }
-{
-    let digits = put_byte(page, at, TAB);
-    put_octal(page, digits, n, x)
-}
 
 // The line of a step.
 pub fn put_step_line(

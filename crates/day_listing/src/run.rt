@@ -2,40 +2,38 @@
 use crate::PAGE_BYTES;
 use crate::lines::put_end_line;
 use crate::lines::put_step_line;
-use crate::put::put_text;
 use machine::Processor;
+use page::put_text;
 use state::MEMORY_WORDS;
 ghost use Prim.Native.Nat.{_+_, _<_, _≤_};
 ghost use Rattle.state.specs.Acceptable.{Acceptable};
 ghost use Rattle.machine.specs.State.{at as state, Good};
 ghost use Rattle.day_listing.specs.Listing.{runListing};
-ghost use Rattle.day_listing.specs.Written.{pageBytes, Stepped, Page};
+ghost use Rattle.page.specs.Written.{Page};
+ghost use Rattle.day_listing.specs.Stepped.{pageBytes, Stepped};
 
 const BUDGET: u64 = 16;
 
-// The registers after a step, and the place after its line.
+// A run as far as it is listed: the registers, the steps done, and the place after their lines.
 struct Progress {
     processor: Processor,
+    done: u64,
     at: usize,
 }
 
-// Step n and its line.
-fn put_step(
-    memory: &mut [u16; MEMORY_WORDS],
-    page: &mut [u8; PAGE_BYTES],
-    p: Processor,
-    at: usize,
-    n: u64,
-) -> Progress
-    requires { ⌜ Good (state p (now memory)) ⌝ ∗ ⌜ at + 21 ≤ pageBytes ⌝ ∗ ⌜ n < 100 ⌝ }
-    ensures { λ r. ⌜ Stepped n (state p (now (memory .entry))) (state (r .processor) (now (memory .exit))) (now (page .entry)) at (now (page .exit)) (r .at) ⌝ }
+// One step more and its line.
+fn put_step(memory: &mut [u16; MEMORY_WORDS], page: &mut [u8; PAGE_BYTES], w: Progress) -> Progress
+    requires { ⌜ Good (state (w .processor) (now memory)) ⌝ ∗ ⌜ w .at + 21 ≤ pageBytes ⌝ ∗ ⌜ w .done < 99 ⌝ }
+    ensures { λ r. ⌜ Stepped (w .done) (r .done) (state (w .processor) (now (memory .entry))) (state (r .processor) (now (memory .exit))) (now (page .entry)) (w .at) (now (page .exit)) (r .at) ⌝ }
 {
-    let pc = p.pc;
-    let i = machine::memory::load(memory, pc);
+    let p = w.processor;
+    let i = machine::memory::load(memory, p.pc);
     let q = pdp8::step::step(memory, p);
-    let end = put_step_line(page, at, n, pc, i, q.lac, q.run);
+    let done = w.done + 1;
+    let end = put_step_line(page, w.at, done, p.pc, i, q.lac, q.run);
     Progress {
         processor: q,
+        done,
         at: end,
     }
 }
@@ -45,24 +43,24 @@ pub fn put_run(memory: &mut [u16; MEMORY_WORDS], page: &mut [u8; PAGE_BYTES]) ->
     requires { ⌜ Acceptable (now memory) ⌝ }
     ensures { λ r. ⌜ Page (runListing (now (memory .entry))) (now (page .entry)) (now (page .exit)) r ⌝ }
 {
-    let mut p = Processor {
-        lac: 0,
-        pc: 0o200,
-        run: 1,
-        enable: 0,
-        request: 0,
-        switches: 0,
+    let start = put_text(page, 0, b"step\tpc\ti\tlac\trun\n");
+    let mut w = Progress {
+        processor: Processor {
+            lac: 0,
+            pc: 0o200,
+            run: 1,
+            enable: 0,
+            request: 0,
+            switches: 0,
+        },
+        done: 0,
+        at: start,
     };
-    let mut at = put_text(page, 0, b"step\tpc\ti\tlac\trun\n");
-    let mut done = 0;
-    while done < BUDGET {
-        if p.run == 0 {
+    while w.done < BUDGET {
+        if w.processor.run == 0 {
             break;
         }
-        let next = put_step(memory, page, p, at, done + 1);
-        p = next.processor;
-        at = next.at;
-        done += 1;
+        w = put_step(memory, page, w);
     }
-    put_end_line(page, at, done, p.run)
+    put_end_line(page, w.at, w.done, w.processor.run)
 }

@@ -1,10 +1,10 @@
 // The day listing of standard input: reads it in chunks and writes what the library makes of them.
 use day_listing::PAGE_BYTES;
-use day_listing::scan::Scanner;
+use image::Scanner;
 use libc::STDIN_FILENO;
 use libc::STDOUT_FILENO;
 use state::MEMORY_WORDS;
-ghost use Rattle.day_listing.specs.Scan.{held, Reached};
+ghost use Rattle.image.specs.Scan.{held, Reached};
 
 // The scanner after a read, whether to read on, and whether the read failed.
 struct Turn {
@@ -28,7 +28,7 @@ fn scan_some(memory: &mut [u16; MEMORY_WORDS], s: Scanner) -> Turn
         };
     }
     let n = io::count(got, &buffer);
-    let next = day_listing::scan::scanned(memory, s, &buffer[..n]);
+    let next = image::scanned(memory, s, &buffer[..n]);
     Turn {
         scanner: next,
         more: true,
@@ -40,7 +40,7 @@ fn scan_some(memory: &mut [u16; MEMORY_WORDS], s: Scanner) -> Turn
 fn scan_all(memory: &mut [u16; MEMORY_WORDS]) -> Turn
     ensures { λ r. ⌜ Reached (held (r .scanner) (now (memory .exit))) ⌝ }
 {
-    let first = day_listing::scan::begin(memory);
+    let first = image::begin(memory);
     let mut turn = scan_some(memory, first);
     let mut turns = u64::MAX;
     while turns > 0 {

@@ -1,6 +1,9 @@
 -- `day_listing::list`: the whole text is one chunk.
 use borrow.Author.Needs.{needs}
+use mathlib.Core.Path.{ap, _∙_}
 use mathlib.Core.List.{[]}
+use Rattle.day_listing.specs.Listing.{scanListing}
+use Rattle.day_listing.proofs.ByText.{scan-listing}
 use Rattle.day_listing.proofs.list.Statement.{statement}
 use Rattle.day_listing.proofs.list.Tie as tie
 
@@ -11,13 +14,13 @@ scanned-requires : tie.Need-scanned-requires
 scanned-requires c κs = search needs
 
 listing-requires : tie.Need-listing-requires
-listing-requires c κs = let whole = c .before .before in
-    record { text = whole .before .before .before .before .before .args .text .now; is = whole .scanned .ensures [] (whole .before .before .begin .ensures) }
+listing-requires c κs = search needs
 
 returns : tie.Need-returns
 returns c = let whole = c .before .before .before in
-    let start = whole .before .before .before .before .before in
-    c .listing .ensures .listing (start .args .text .now) (whole .scanned .ensures [] (whole .before .before .begin .ensures)) (search needs)
+    let text = whole .before .before .before .before .before .args .text .now in
+    let held = whole .scanned .ensures .goes-on [] (whole .before .before .begin .ensures) in
+    rw (← (ap scanListing held ∙ scan-listing text (search needs))) (c .listing .ensures)
 
 pub list-spec : {M : Type 1} → statement M
 list-spec = tie.close (tie.spec begin-requires scanned-requires listing-requires returns)

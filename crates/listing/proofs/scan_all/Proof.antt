@@ -1,7 +1,7 @@
 -- `listing::scan_all`: after each read the scanner and the memory are those of some text. The turns that are left fall.
 use borrow.Author.Needs.{needs}
 use mathlib.Core.List.{[]}
-use Rattle.day_listing.specs.Scan.{held, Reached}
+use Rattle.image.specs.Scan.{held, Reached}
 use Rattle.listing.proofs.scan_all.Statement.{statement}
 use Rattle.listing.proofs.scan_all.Tie as tie
 

@@ -33,7 +33,7 @@ scanned-requires c κs = search needs
 returns-2 : tie.Need-returns-2
 returns-2 c = let call = c .before .before .before .before .before in
     let so-far = call .before .before .before .before .before .pre in
-    record { text = _; is = c .scanned .ensures (so-far .text) (so-far .is) }
+    record { text = _; is = c .scanned .ensures .goes-on (so-far .text) (so-far .is) }
 
 pub scan-some-spec : {M : Type 1} → statement M
 scan-some-spec =

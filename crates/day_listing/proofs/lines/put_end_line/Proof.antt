@@ -2,8 +2,8 @@
 use borrow.Author.Needs.{needs}
 use borrow.Author.Tests.{eq-eqb, ne-eqb}
 use native.Mathlib.Omega.{arith}
-use Rattle.day_listing.proofs.Writing.{written-then}
-use Rattle.day_listing.proofs.Numbers.{decimal-length}
+use Rattle.page.proofs.Writing.{written-then}
+use Rattle.page.proofs.Numbers.{decimal-length}
 use Rattle.day_listing.proofs.Sizes.{end-line}
 use Rattle.day_listing.proofs.lines.put_end_line.Statement.{statement}
 use Rattle.day_listing.proofs.lines.put_end_line.Tie as tie

@@ -2,8 +2,9 @@
 use borrow.Author.Needs.{needs}
 use native.Mathlib.Omega.{arith}
 use Rattle.day_listing.specs.Listing.{refusedLine}
-use Rattle.day_listing.proofs.Writing.{written-then, written-page}
-use Rattle.day_listing.proofs.Numbers.{decimal-length}
+use Rattle.day_listing.specs.Stepped.{pageBytes}
+use Rattle.page.proofs.Writing.{written-then, written-page}
+use Rattle.page.proofs.Numbers.{decimal-length}
 use Rattle.day_listing.proofs.lines.put_refused_line.Statement.{statement}
 use Rattle.day_listing.proofs.lines.put_refused_line.Tie as tie
 
@@ -25,7 +26,7 @@ returns : tie.Need-returns
 unfolding refusedLine
 returns c = let number = c .before .before in
     let start = number .before .before .before .before .before in
-    written-page _ (search needs) (omega (arith, c .put-byte .ensures .place, number .put-decimal .ensures .place, decimal-length 19 (start .args .n) (search needs)))
+    written-page pageBytes _ (search needs) (omega (arith, c .put-byte .ensures .place, number .put-decimal .ensures .place, decimal-length 19 (start .args .n) (search needs)))
     (written-then _ _ (written-then _ _ (number .before .before .put-text .ensures) (number .put-decimal .ensures)) (c .put-byte .ensures))
 
 pub put-refused-line-spec : {M : Type 1} → statement M

@@ -1,7 +1,7 @@
 -- `day_listing::lines::put_step_line`: the fields one after the other.
 use native.Mathlib.Omega.{arith}
 use Rattle.day_listing.specs.Listing.{stepLine}
-use Rattle.day_listing.proofs.Writing.{written-then}
+use Rattle.page.proofs.Writing.{written-then}
 use Rattle.day_listing.proofs.Sizes.{field-sizes}
 use Rattle.day_listing.proofs.lines.put_step_line.Statement.{statement}
 use Rattle.day_listing.proofs.lines.put_step_line.Tie as tie

@@ -10,17 +10,18 @@ use Rattle.word.specs.Choice.{choose}
 use Rattle.state.specs.declared.Reason.the-variants.{Halted, Spent}
 use Rattle.machine.specs.State.{at as state}
 use Rattle.day_listing.specs.Listing.{budget}
-use Rattle.day_listing.proofs.Writing.{written-then, written-page}
+use Rattle.day_listing.specs.Stepped.{pageBytes}
+use Rattle.page.proofs.Writing.{written-then, written-page}
 use Rattle.day_listing.proofs.Sizes.{end-line-size}
 use Rattle.day_listing.proofs.Rest.{Listed, listed-none, listed-more, listed-all, run-listing}
 use Rattle.day_listing.proofs.run.put_run.Statement.{statement}
 use Rattle.day_listing.proofs.run.put_run.Tie as tie
 
 abbrev Inv-loop : tie.InvT-loop
-Inv-loop memory₀ page₀ p₀ at₀ done₀ memory page p at done = Listed (state p₀ memory₀) page₀ at₀ (state p memory) page at done
+Inv-loop memory₀ page₀ start w₀ memory page w = Listed (state (w₀ .processor) memory₀) page₀ (w₀ .at) (state (w .processor) memory) page (w .at) (w .done)
 
 abbrev μ-loop : tie.MeasureT-loop
-μ-loop memory₀ page₀ p₀ at₀ done₀ memory page p at done = budget - done
+μ-loop memory₀ page₀ start w₀ memory page w = budget - w .done
 
 slice-aggregate-put-text : tie.Need-slice-aggregate-put-text Inv-loop μ-loop
 slice-aggregate-put-text c = search needs
@@ -40,36 +41,34 @@ loop-holds c =
       memory = c .before .before .before .pre;
     })
 
-add-put-step : tie.Need-add-put-step Inv-loop μ-loop
-add-put-step c = search needs
-
 put-step-requires : tie.Need-put-step-requires Inv-loop μ-loop
-put-step-requires c κs = let head = c .before .before .before .before .before in
-    (head .loop .inv .good, omega (arith, head .before .put-text .ensures .place))
-
-add-done : tie.Need-add-done Inv-loop μ-loop
-add-done c = search needs
+put-step-requires c κs = let test = c .before .before .before .before in
+    let head = test .before .before in
+    let at = head .loop .inv in
+    (at .good, omega (arith, at .room, test .if1 .taken, head .before .put-text .ensures .place))
 
 loop-less : tie.Need-loop-less Inv-loop μ-loop
-loop-less c = search needs
+loop-less c = let test = c .before .before .before .before .before in
+    omega (arith, c .put-step .ensures .count, test .if1 .taken)
 
 loop-again : tie.Need-loop-again Inv-loop μ-loop
-loop-again c = let here = c .before .before .before .before in
-    let turn = here .before .before in
-    listed-more (turn .before .loop .inv) (turn .loop-test .taken) (ap not (ne-eqb _ _ (here .if1 .left))) (c .before .put-step .ensures)
+loop-again c = let here = c .before .before .before in
+    let test = here .before .before in
+    listed-more (test .before .before .loop .inv) (test .if1 .taken) (ap not (ne-eqb _ _ (here .if2 .left))) (c .put-step .ensures)
 
 put-end-line-requires : tie.Need-put-end-line-requires Inv-loop μ-loop
-put-end-line-requires c κs = let head = c .before .before in
+put-end-line-requires c κs = let head = c .before .before .before in
     omega (arith, head .loop .inv .room, head .loop .inv .count, head .before .put-text .ensures .place)
 
 returns : tie.Need-returns Inv-loop μ-loop
-returns c = let head = c .before .before .before in
+returns c = let head = c .before .before .before .before in
     let title = head .before .put-text .ensures in
     let at = head .loop .inv in
-    let how = ⊎-elim (λ w. inl (w .left)) (λ w. inr (w .2 .taken)) (c .before .before .loop-test .came) in
-    let size = end-line-size (head .loop .done) (choose (head .loop .p .run) Spent Halted) (omega arith) in
+    let w = head .loop .w in
+    let how = ⊎-elim (λ q. inl (q .left)) (λ q. inr (q .2 .taken)) (c .before .before .if1 .came) in
+    let size = end-line-size (w .done) (choose (w .processor .run) Spent Halted) (omega arith) in
     rw run-listing
-    (written-page _ (search needs) (omega (arith, c .put-end-line .ensures .place, at .room, at .count, title .place, size))
+    (written-page pageBytes _ (search needs) (omega (arith, c .put-end-line .ensures .place, at .room, at .count, title .place, size))
     (written-then _ _ title (listed-all at how (c .put-end-line .ensures))))
 
 pub put-run-spec : {M : Type 1} → statement M
@@ -81,9 +80,7 @@ put-run-spec =
     slice-aggregate-put-text
     put-text-requires
     loop-holds
-    add-put-step
     put-step-requires
-    add-done
     loop-less
     loop-again
     put-end-line-requires

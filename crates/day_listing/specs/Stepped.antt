@@ -1,0 +1,19 @@
+-- What the functions that list a run promise of a step.
+-- Assumes nothing.
+use mathlib.Core.Path.{_≡_}
+use mathlib.Core.List.{List}
+use Prim.Native.Nat.{ℕ, _+_}
+use Rattle.machine.specs.State.{State, word}
+use Rattle.pdp8.specs.Step.{step}
+use Rattle.page.specs.Written.{Written}
+use Rattle.day_listing.specs.Listing.{stepLine}
+
+-- the bytes of a page: the longest listing has 368, as a heading, 16 lines of at most 21 bytes and the last line
+abbrev pub pageBytes : ℕ
+pageBytes = 512
+
+-- one step and its line, where `done` steps were done before it and `next` after it: the state, the count and the page
+pub record Stepped (done next : ℕ) (s t : State) (before : List ℕ) (at : ℕ) (after : List ℕ) (end : ℕ) : Type 0 where
+  pub state : t ≡ step s
+  pub count : next ≡ done + 1
+  pub line : Written (stepLine (done + 1) (s .pc) (word (s .pc) s) (t .lac) (t .run)) before at after end

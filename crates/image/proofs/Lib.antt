@@ -1,0 +1,5 @@
+pub mod Pass
+pub mod Form
+pub mod Cut
+pub mod ByLines
+pub mod Sound

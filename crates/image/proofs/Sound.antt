@@ -1,0 +1,56 @@
+-- What the scanner loads is an acceptable memory, which the machine runs on.
+-- Assumes nothing.
+use mathlib.Core.Path.{_≡_, refl, sym, subst}
+use mathlib.Core.Bool.{Bool, true, false}
+use mathlib.Core.List.{List, [], _∷_}
+use Prim.Native.Nat.{ℕ, _^_, _<_, _≤_}
+use native.Mathlib.Nat.{mod-lt}
+use native.Mathlib.Decide.{decLt}
+use native.Mathlib.Omega.{arith}
+use lib.ListN.{length, getD, replicate, length-replicate, getD-replicate, List·getD-eq-default}
+use Rattle.word.specs.Choice.{on}
+use Rattle.word.specs.Word.{wordBits}
+use Rattle.state.specs.Limits.{memoryWords}
+use Rattle.state.specs.Acceptable.{Acceptable}
+use Rattle.state.proofs.Accepted.{store-acceptable}
+use lib.Dec.{ltb}
+use Rattle.image.specs.Input.{form, clear}
+use Rattle.image.specs.Scan.{Scan, held, fresh, accepted, scanByte, scanFrom, scanOf, Reached}
+
+pub clear-acceptable : Acceptable clear
+unfolding clear
+clear-acceptable = record { size = length-replicate {A = ℕ} memoryWords 0; words = λ k. words k (decLt k memoryWords) }
+  where
+    words : (k : ℕ) → Dec (k < memoryWords) → getD (replicate memoryWords 0) k 0 < 2 ^ wordBits
+    words k (yes l) = rw (getD-replicate {A = ℕ} memoryWords k 0 0 l) (omega arith)
+    words k (no l) = let past : length {A = ℕ} (replicate memoryWords 0) ≤ k = rw (length-replicate {A = ℕ} memoryWords 0) (omega arith) in
+        rw (List·getD-eq-default {A = ℕ} (replicate memoryWords 0) 0 past) (omega arith)
+
+-- the scanner's word has 12 bits, and so has every word of the memory
+record Sound (s : Scan) : Type 0 where
+  word : s .scanner .word < 2 ^ wordBits
+  memory : Acceptable (s .memory)
+
+accepts : (s : Scan) (b : ℕ) (t u v : Bool) → ltb (s .scanner .column) 4 ≡ t → ltb (s .scanner .column) 5 ≡ u → ltb (s .scanner .column) 9 ≡ v → Sound s → Sound (accepted s b)
+unfolding accepted
+accepts s b true u v e f g d = rw (e, accepted) (record { word = d .word; memory = d .memory })
+accepts s b false true v e f g d = rw (e, f, accepted) (record { word = d .word; memory = d .memory })
+accepts s b false false true e f g d = rw (e, f, g, accepted) (record { word = mod-lt _ (omega arith); memory = d .memory })
+accepts s b false false false e f g d = rw (e, f, g, accepted) (record { word = omega arith; memory = store-acceptable _ (d .word) (d .memory) })
+
+byte : (s : Scan) (b : ℕ) (t u : Bool) → on (s .scanner .refused) ≡ t → form (s .scanner .column) b ≡ u → Sound s → Sound (scanByte s b)
+unfolding scanByte
+byte s b true u e f d = rw (e, scanByte) d
+byte s b false true e f d = rw (e, f, scanByte) (accepts s b _ _ _ refl refl refl d)
+byte s b false false e f d = rw (e, f, scanByte) (record { word = d .word; memory = d .memory })
+
+pass : (s : Scan) (text : List ℕ) → Sound s → Sound (scanFrom s text)
+unfolding scanFrom
+pass s [] d = d
+pass s (b ∷ text) d = pass (scanByte s b) text (byte s b _ _ refl refl d)
+
+pub reached-acceptable : (s : Scan) → Reached s → Acceptable (s .memory)
+unfolding scanOf
+reached-acceptable s r =
+    subst (λ (x : Scan). Acceptable (x .memory)) (sym (r .is))
+    (pass (held (fresh 1) clear) (r .text) (record { word = omega arith; memory = clear-acceptable }) .memory)

@@ -19,6 +19,14 @@ extern "C" {
  */
 void guavachisel_emulate(uint16_t *memory, size_t words, uint16_t registers[6], uint64_t budget, uint64_t outcome[3]);
 
+/*
+ * Reads a description.
+ * outcome[0]: 0 if it is accepted, or the refusal's number: 1 text over 16,384 bytes, 2 no header, 3 the form of a line, 4 a register's name or width,
+ *             5 an expression or destination, 6 a label, 7 one register, row, label or piece too many, 8 no register RUN of width 1.
+ * outcome[1]: the line of the refusal, 0 if the text is accepted or too long.
+ */
+void guavachisel_read(const uint8_t *text, size_t bytes, uint64_t outcome[2]);
+
 #ifdef __cplusplus
 }
 #endif

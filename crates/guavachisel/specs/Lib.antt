@@ -1,1 +1,2 @@
 pub mod Emulation
+pub mod Reading

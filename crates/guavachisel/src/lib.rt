@@ -1,3 +1,4 @@
 // The C interface. Each function takes whatever a caller hands over, and its contract says all that the caller finds afterwards.
 pub mod emulation;
 mod numbers;
+pub mod reading;

@@ -1,39 +1,33 @@
 -- What is accepted is formed: of each kind of line in turn, by induction on the lines.
 -- Assumes nothing.
 use mathlib.Core.Path.{_≡_, refl, sym, ap, subst, _∙_}
-use mathlib.Core.Bool.{Bool, true, false, not, _&&_, _||_}
+use mathlib.Core.Bool.{Bool, true, false, not, _&&_}
 use mathlib.Core.List.{List, [], _∷_, _++_}
-use Prim.Native.Nat.{ℕ, zero, suc, _+_, _≤_, _<_}
+use Prim.Native.Nat.{ℕ, suc, _+_, _≤_}
 use native.Mathlib.Omega.{arith}
 use lib.Dec.{eqb, leb, ltb}
 use lib.ListN.{length, length-append}
-use borrow.Author.Tests.{ltb-true, leb-true, eqb-true}
+use borrow.Author.Tests.{ltb-true, leb-true}
 use Rattle.word.specs.Word.{widest}
 use Rattle.text.specs.Bytes.{same}
 use Rattle.text.specs.Fields.{Line, lineFeed, until, before, after, lines, field, hasFields}
 use Rattle.text.specs.Names.{Named, isName}
 use Rattle.text.specs.Constants.{decimalAt}
 use Rattle.text.proofs.Cases.{by-case}
-use Rattle.text.proofs.Tests.{by-test, and-left, and-right}
-use Rattle.expression.specs.Tree.{Expr}
+use Rattle.text.proofs.Strings.{equal}
+use Rattle.text.proofs.Tests.{and-left, and-right}
 use Rattle.expression.specs.Grammar.{Reading, read, outside, expression, Destination, destination}
 use Rattle.expression.specs.Formed.{Registers, Accepted, Reads, FormedDestination}
 use Rattle.expression.proofs.Formed.{expression-formed, destination-formed}
-use Rattle.description.specs.declared.targets.Target.{Target}
-use Rattle.description.specs.declared.targets.Target.the-variants.{Passes, Missing}
-use Rattle.description.specs.Rows.{Row, does, goes, rowPieces, Description}
-use Rattle.description.specs.Lines.{mostBytes, mostRegisters, mostRows, mostLabels, allPieces, regWord, doWord, goWord, atWord, Progress, Step, refused, next, isFit, widthOf, endOf, isWidth, isNewName, addRegister, regLine, addRow, isSomewhere, RowReading, formed, unformed, doRow, withRow, doLine, isAt, isRow, further, passes, rowsPassed, missingAt, goRow, goLine, isNewLabel, addLabel, atLine, readLine}
-use Rattle.description.specs.Description.{Answer, accepted, turnedDown, header, nothing, hasRun, finished, readLines, readText}
+use Rattle.declaration.specs.declared.targets.Target.{Target}
+use Rattle.declaration.specs.declared.targets.Target.the-variants.{Passes, Missing}
+use Rattle.declaration.specs.Rows.{Row, does, goes, rowPieces, Description}
+use Rattle.declaration.specs.Limits.{mostBytes, mostRegisters, mostRows, mostLabels, allPieces}
+use Rattle.declaration.specs.Lines.{regWord, doWord, goWord, atWord, Progress, Step, refused, next, widthOf, endOf, isWidth, isNewName, addRegister, regLine, isNewLabel, addLabel, atLine}
+use Rattle.declaration.specs.Targets.{isAt, isRow, further, passes}
+use Rattle.row.specs.Lines.{addRow, isSomewhere, RowReading, formed, unformed, doRow, withRow, doLine, rowsPassed, missingAt, goRow, goLine}
+use Rattle.description.specs.Description.{isFit, readLine, Answer, accepted, turnedDown, header, nothing, hasRun, finished, readLines, readText}
 use Rattle.description.specs.Formed.{FormedRow, FormedRows, Lands, Lower, piecesOf, Formed, labelsIn, Keeps}
-
--- strings that are the same are equal
-equal : (a b : List ℕ) → same a b ≡ true → a ≡ b
-unfolding same
-equal [] [] e = refl
-equal [] (y ∷ b) e = absurd (mathlib.Core.Bool.false≢true e)
-equal (x ∷ a) [] e = absurd (mathlib.Core.Bool.false≢true e)
-equal (x ∷ a) (y ∷ b) e =
-    ap (λ (k : ℕ). k ∷ a) (eqb-true x y (and-left (eqb x y) (same a b) e)) ∙ ap (λ (l : List ℕ). y ∷ l) (equal a b (and-right (eqb x y) (same a b) e))
 
 -- a first word is one of them
 module _ (s w : List ℕ) (e : same s w ≡ true) where

@@ -1,8 +1,2 @@
-mod Passing
-mod Fielding
-mod Adding
-mod Storing
-mod Rowing
-mod Aiming
-mod Reading
+mod Texts
 pub mod Formed

@@ -5,30 +5,51 @@ use mathlib.Core.Bool.{Bool, true, false, _&&_}
 use mathlib.Core.List.{List, [], _∷_}
 use lib.Dec.{eqb, leb, ltb}
 use lib.ListN.{length}
-use Rattle.text.specs.Bytes.{same}
+use Rattle.text.specs.Bytes.{same, run}
 use Rattle.text.specs.Fields as text
-use Rattle.text.specs.Fields.{lineFeed, until, before, after, lines}
+use Rattle.text.specs.Fields.{lineFeed, until, before, after, lines, field}
 use Rattle.text.specs.Names.{Named, find}
+use Rattle.text.specs.declared.bytes.Class.the-variants.{Printable}
 use Rattle.token.specs.References.{widthIn}
-use Rattle.description.specs.declared.faults.Fault.{Fault}
-use Rattle.description.specs.declared.faults.Fault.the-variants.{Size, Header, Line, Label, Run}
-use Rattle.description.specs.Rows.{Description}
-use Rattle.description.specs.Lines.{mostBytes, Progress, refused, next, readLine}
+use Rattle.declaration.specs.declared.faults.Fault.{Fault}
+use Rattle.declaration.specs.declared.faults.Fault.the-variants.{Size, Header, Line, Label, Run}
+use Rattle.declaration.specs.Rows.{Description}
+use Rattle.declaration.specs.Limits.{mostBytes, longestLine}
+use Rattle.declaration.specs.Lines.{Progress, refused, next, regWord, doWord, goWord, atWord, Step, regLine, atLine}
+use Rattle.row.specs.Lines.{goLine, doLine}
 
 -- "The answer is the number and line."
 pub data Answer : Type 0 where
   accepted : Description → Answer
   turnedDown : Fault → ℕ → Answer
 
--- "`rows`, TAB, `1`"
-abbrev pub header : List ℕ
-header = 114 ∷ 111 ∷ 119 ∷ 115 ∷ 9 ∷ 49 ∷ []
+-- "a line of more than 200 bytes, its LF not counted; no LF after the last line; a byte other than 32 to 126 or TAB"
+abbrev pub isFit : text.Line → Bool
+isFit l = l .ended && leb (length (l .bytes)) longestLine && eqb (run Printable (l .bytes)) (length (l .bytes))
+
+-- line n, above the lines below it
+unfoldable pub readLine : Progress → ℕ → List text.Line → text.Line → Step
+readLine p n below l =
+    elim (isFit l) [
+      | true ↦
+          elim (same (field 0 (l .bytes)) regWord) [
+            | true ↦ regLine p (l .bytes)
+            | false ↦
+                elim (same (field 0 (l .bytes)) doWord) [
+                  | true ↦ doLine p (l .bytes)
+                  | false ↦
+                      elim (same (field 0 (l .bytes)) goWord) [
+                        | true ↦ goLine p n below (l .bytes)
+                        | false ↦
+                            elim (same (field 0 (l .bytes)) atWord) [ true ↦ atLine p (l .bytes) | false ↦ refused Line ]
+                      ]
+                ]
+          ]
+      | false ↦ refused Line
+    ]
 
 abbrev pub runName : List ℕ
 runName = 82 ∷ 85 ∷ 78 ∷ []
-
-abbrev pub nothing : Progress
-nothing = record { registers = []; labels = []; rows = []; pieces = 0; begun = false; missing = 0 }
 
 -- "register RUN of width 1"
 abbrev pub hasRun : List Named → Bool
@@ -43,10 +64,17 @@ finished p n =
       | false ↦ turnedDown Label (p .missing)
     ]
 
+abbrev pub nothing : Progress
+nothing = record { registers = []; labels = []; rows = []; pieces = 0; begun = false; missing = 0 }
+
 -- "Lines are taken in order", from line n on
 unfoldable pub readLines : Progress → ℕ → List text.Line → Answer
 readLines p n [] = finished p n
 readLines p n (l ∷ ls) = elim (readLine p n ls l) [ refused k ↦ turnedDown k n | next q ↦ readLines q (n + 1) ls ]
+
+-- "`rows`, TAB, `1`"
+abbrev pub header : List ℕ
+header = 114 ∷ 111 ∷ 119 ∷ 115 ∷ 9 ∷ 49 ∷ []
 
 -- "The first line must be exactly `rows`, TAB, `1`"; "text over 16,384 bytes (line 0)"
 unfoldable pub readText : List ℕ → Answer

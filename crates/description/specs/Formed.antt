@@ -10,8 +10,10 @@ use Rattle.text.specs.Bytes.{same}
 use Rattle.text.specs.Fields.{Line, field}
 use Rattle.text.specs.Names.{Named}
 use Rattle.expression.specs.Formed.{Registers, Accepted, FormedDestination}
-use Rattle.description.specs.Rows.{Row, does, goes, rowPieces, Description}
-use Rattle.description.specs.Lines.{mostRegisters, mostRows, mostLabels, allPieces, isSomewhere, atWord}
+use Rattle.declaration.specs.Rows.{Row, does, goes, rowPieces, Description}
+use Rattle.declaration.specs.Limits.{mostRegisters, mostRows, mostLabels, allPieces}
+use Rattle.declaration.specs.Lines.{atWord}
+use Rattle.row.specs.Lines.{isSomewhere}
 use Rattle.description.specs.Description.{hasRun}
 
 -- a row over the registers

@@ -1,109 +1,21 @@
--- What the code's numbers and tables say of a description.
+-- What the reader's answer and the lent tables say of a text.
 -- Assumes nothing.
 use mathlib.Core.Path.{_≡_}
-use mathlib.Core.Bool.{Bool, true, false, _&&_}
+use mathlib.Core.Bool.{false}
 use mathlib.Core.List.{List}
-use Prim.Native.Nat.{ℕ, _+_, _-_, _*_, _≤_}
-use lib.Dec.{leb, ltb}
+use Prim.Native.Nat.{ℕ, _-_, _≤_}
 use lib.ListN.{length, drop}
 use lib.Seq.{sets}
-use Rattle.word.specs.Choice.{pick}
-use Rattle.text.specs.Fields as fields
-use Rattle.text.specs.Fields.{lineFeed, until, before, field}
-use Rattle.text.specs.Names.{Named, entries, none}
-use Rattle.expression.specs.Tree.{Expr}
-use Rattle.expression.specs.Grammar.{read, Destination, expression, destination}
-use Rattle.expression.specs.Met.{Held}
-use Rattle.expression.specs.declared.code.Cursor.{Cursor}
-use Rattle.description.specs.declared.faults.Fault.the-variants.{Limit}
-use Rattle.description.specs.declared.lines.Progress as progress
-use Rattle.description.specs.declared.lines.Status.{Status}
-use Rattle.description.specs.declared.lines.Status.the-variants.{Goes, Refused}
-use Rattle.description.specs.declared.lines.Step as step
-use Rattle.description.specs.declared.rows.Aim.{Aim}
-use Rattle.description.specs.declared.rows.RowRead.{RowRead}
+use Rattle.text.specs.Names.{entries, none}
+use Rattle.declaration.specs.declared.lines.Progress as progress
+use Rattle.declaration.specs.Rows.{Row, Description}
+use Rattle.declaration.specs.Stored.{progressOf}
+use Rattle.row.specs.Cells.{code, cells}
 use Rattle.description.specs.declared.reader.Answer as reader
 use Rattle.description.specs.declared.reader.Verdict.{Verdict}
 use Rattle.description.specs.declared.reader.Verdict.the-variants as verdict
 use Rattle.description.specs.declared.reader.Verdict.the-variants.{Accepted}
-use Rattle.description.specs.Rows.{Row, Description, rowPieces, addressPieces}
 use Rattle.description.specs.Description.{Answer, accepted, turnedDown, finished}
-use Rattle.description.specs.Lines.{mostRegisters, mostRows, mostLabels, allPieces, Progress, Step, refused, next, isSomewhere, RowReading, formed, unformed, doRow}
-use Rattle.description.specs.Cells.{rowCells, addressCode, rowCode, code, kindOf, registerOf, rightOf, sizeOf, cellsOf, cells}
-
--- what was read so far, by the code's numbers and the rows
-abbrev pub progressOf : List ℕ → progress.Progress → List Row → Progress
-progressOf text q rs =
-    record {
-      registers = entries text (q .registers);
-      labels = entries text (q .labels);
-      rows = rs;
-      pieces = q .pieces;
-      begun = q .begun;
-      missing = q .missing;
-    }
-
-abbrev pub stepBy : Status → Progress → Step
-stepBy Goes p = next p
-stepBy (Refused f) p = refused f
-
-abbrev pub stepOf : List ℕ → step.Step → List Row → Step
-stepOf text r rs = stepBy (r .status) (progressOf text (r .progress) rs)
-
--- the limits that hold of what was read so far
-pub record Within (q : progress.Progress) : Type 0 where
-  pub few-registers : q .registers .count ≤ mostRegisters
-  pub few-labels : q .labels .count ≤ mostLabels
-  pub few-rows : q .rows ≤ mostRows
-  pub few-words : q .words ≤ q .pieces
-  pub few-pieces : q .pieces ≤ allPieces
-
--- the lent tables hold the words of so many rows, and are else as they came
-pub record Tables (rs : List Row) (rows words : ℕ) (code₀ code₁ table₀ table₁ : List ℕ) : Type 0 where
-  pub rows-are : rows ≡ length rs
-  pub words-are : 4 * words ≡ length (code rs)
-  pub code-is : code₁ ≡ sets code₀ 0 (code rs)
-  pub table-is : table₁ ≡ sets table₀ 0 (cells 0 rs)
-
--- a line that adds no row
-pub record Plain (text : List ℕ) (f : Progress → Step) (q : progress.Progress) (r : step.Step) : Type 0 where
-  pub is : (rs : List Row) → f (progressOf text q rs) ≡ stepOf text r rs
-  pub same-rows : r .progress .rows ≡ q .rows
-  pub same-words : r .progress .words ≡ q .words
-  pub within : Within (r .progress)
-
--- what a line comes to, with the rows behind it
-pub record Comes (text : List ℕ) (x : Step) (r : step.Step) (code₀ code₁ table₀ table₁ : List ℕ) : Type 0 where
-  pub rows : List Row
-  pub is : x ≡ stepOf text r rows
-  pub holds : r .status ≡ Goes → Tables rows (r .progress .rows) (r .progress .words) code₀ code₁ table₀ table₁
-
--- a line, whatever the rows before it are
-pub record Takes (text : List ℕ) (f : Progress → Step) (q : progress.Progress) (r : step.Step) (code₁ code₂ table₁ table₂ : List ℕ) : Type 0 where
-  pub comes : (rs : List Row) (code₀ table₀ : List ℕ) → Tables rs (q .rows) (q .words) code₀ code₁ table₀ table₁
-      → Comes text (f (progressOf text q rs)) r code₀ code₂ table₀ table₂
-  pub within : Within (r .progress)
-
--- whether there is room for a row more, and for its pieces
-abbrev pub hasRoom : progress.Progress → Cursor → Bool
-hasRoom q end = ltb (q .rows) mostRows && leb (end .pieces) allPieces
-
-abbrev pub oneMore : progress.Progress → Cursor → ℕ → progress.Progress
-oneMore q end gone =
-    record {
-      registers = q .registers;
-      labels = q .labels;
-      rows = q .rows + 1;
-      words = end .words;
-      pieces = end .pieces;
-      begun = true;
-      missing = gone;
-    }
-
--- a row's cells put behind those of the rows before it, if there is room
-pub record Put (q : progress.Progress) (cs : List ℕ) (end : Cursor) (gone : ℕ) (r : step.Step) (before after : List ℕ) : Type 0 where
-  pub is : r ≡ pick (hasRoom q end) (record { progress = oneMore q end gone; status = Goes }) (record { progress = q; status = Refused Limit })
-  pub table-is : after ≡ pick (hasRoom q end) (sets before (rowCells * q .rows) cs) before
 
 -- the answer to a text
 abbrev pub answerBy : Verdict → Description → Answer
@@ -114,50 +26,6 @@ answerBy (verdict.Refused f n) d = turnedDown f n
 abbrev pub Finishes : List ℕ → progress.Progress → ℕ → Verdict → Type 0
 Finishes text q n v =
     (rs : List Row) → finished (progressOf text q rs) n ≡ answerBy v (record { registers = entries text (q .registers); rows = rs })
-
--- a destination that was read: its cells, and its address's words and pieces behind those before it
-pub record Aiming (x : Destination) (s : List ℕ) (a : Aim) (from : Cursor) (before after : List ℕ) : Type 0 where
-  pub somewhere : isSomewhere x ≡ true
-  pub kind-is : a .kind ≡ kindOf x
-  pub register-is : a .register ≡ registerOf x
-  pub right-is : a .right ≡ rightOf x
-  pub size-is : a .size ≡ sizeOf x
-  pub pieces-are : a .end .pieces ≡ from .pieces + addressPieces x
-  pub words-are : 4 * a .end .words ≡ 4 * from .words + length (addressCode x)
-  pub code-is : after ≡ sets before (4 * from .words) (addressCode x)
-  pub words-few : a .end .words ≤ from .words + length s
-  pub pieces-few : a .end .pieces ≤ from .pieces + length s
-
-pub record Aimed (x : Destination) (s : List ℕ) (a : Aim) (from : Cursor) (before after : List ℕ) : Type 0 where
-  pub aims : a .found ≡ true → Aiming x s a from before after
-  pub misses : a .found ≡ false → isSomewhere x ≡ false
-
--- a row that was read: its cells, and its words and pieces behind those before it
-pub record Forming (row : Row) (cs : List ℕ) (end from : Cursor) (before after : List ℕ) : Type 0 where
-  pub cells-are : cs ≡ cellsOf (4 * from .words) row
-  pub pieces-are : end .pieces ≡ from .pieces + rowPieces row
-  pub words-are : 4 * end .words ≡ 4 * from .words + length (rowCode row)
-  pub code-is : after ≡ sets before (4 * from .words) (rowCode row)
-
-pub record HasRow (x : RowReading) (r : RowRead) (from : Cursor) (before after : List ℕ) : Type 0 where
-  pub row : Row
-  pub is : x ≡ formed row
-  pub forms : Forming row (r .cells) (r .end) from before after
-
--- the row of a `do` line
-pub record Rows (rs : List Named) (s : List ℕ) (from : Cursor) (r : RowRead) (before after : List ℕ) : Type 0 where
-  pub forms : r .found ≡ true → HasRow (doRow (expression rs (field 1 s)) (destination rs (field 2 s)) (expression rs (field 3 s))) r from before after
-  pub lacks : r .found ≡ false → doRow (expression rs (field 1 s)) (destination rs (field 2 s)) (expression rs (field 3 s)) ≡ unformed
-
--- the same behind a condition that was read, whatever that is
-pub record Acts (rs : List Named) (s : List ℕ) (start : ℕ) (condition : Cursor) (r : RowRead) (now after : List ℕ) : Type 0 where
-  pub forms : r .found ≡ true → (c : Expr) (x w : ℕ) (from : Cursor) (before : List ℕ) → from .words ≡ start → Held c x condition w from before now
-      → HasRow (doRow (read c x) (destination rs (field 2 s)) (expression rs (field 3 s))) r from before after
-  pub lacks : r .found ≡ false → (c : Expr) (x : ℕ) → doRow (read c x) (destination rs (field 2 s)) (expression rs (field 3 s)) ≡ unformed
-
--- the first line of a rest
-abbrev pub firstLine : List ℕ → fields.Line
-firstLine s = record { bytes = before lineFeed s; ended = ltb (until lineFeed s) (length s) }
 
 -- what is left of a text
 pub record Rest (text rest : List ℕ) : Type 0 where

@@ -1,12 +1,13 @@
 // The whole text: line by line, then what is looked for after all lines.
-use crate::faults::Fault;
 use crate::limits;
-use crate::limits::TABLE_CELLS;
-use crate::lines;
-use crate::lines::Progress;
-use crate::lines::Status;
-use crate::lines::Step;
-use crate::rows;
+use declaration::faults::Fault;
+use declaration::lines;
+use declaration::lines::Progress;
+use declaration::lines::Status;
+use declaration::lines::Step;
+use expression::code::CODE_PLACES;
+use row::limits::TABLE_CELLS;
+use row::rows;
 use text::bytes;
 use text::bytes::Class;
 use text::fields;
@@ -14,15 +15,17 @@ use text::fields::LINE_FEED;
 use text::names;
 use text::names::Dictionary;
 ghost use mathlib.Core.Path.{_≡_};
-ghost use Prim.Native.Nat.{_+_, _≤_};
+ghost use Prim.Native.Nat.{_≤_};
 ghost use lib.Dec.{ltb};
 ghost use lib.ListN.{length};
-ghost use Rattle.text.specs.Fields.{lineFeed, until, before, after, lines};
+ghost use Rattle.text.specs.Fields.{lineFeed, until, before, after, lines, firstLine};
 ghost use Rattle.text.specs.Names.{entries};
+ghost use Rattle.declaration.specs.Limits.{mostBytes};
+ghost use Rattle.declaration.specs.Stored.{Within};
+ghost use Rattle.row.specs.Stored.{Takes};
 ghost use Rattle.description.specs.declared.reader.Verdict.the-variants as verdict;
-ghost use Rattle.description.specs.Lines.{mostBytes, isFit, readLine};
-ghost use Rattle.description.specs.Description.{nothing, hasRun, readLines, readText};
-ghost use Rattle.description.specs.Stored.{firstLine, unread, Within, Takes, Rest, Finishes, Answers};
+ghost use Rattle.description.specs.Description.{isFit, readLine, nothing, hasRun, readLines, readText};
+ghost use Rattle.description.specs.Stored.{unread, Rest, Finishes, Answers};
 
 // What a text comes to.
 pub enum Verdict {
@@ -75,7 +78,7 @@ fn read_line(
     q: Progress,
     n: usize,
     rest: &[u8],
-    code: &mut [u16; 4896],
+    code: &mut [u16; CODE_PLACES],
     table: &mut [u16; TABLE_CELLS],
 ) -> Step
     requires { ⌜ Within q ⌝ ∗ ⌜ length (now text) ≤ mostBytes ⌝ ∗ ⌜ Rest (now text) (now rest) ⌝ }
@@ -130,7 +133,7 @@ fn turned_down(f: Fault, line: usize) -> Answer
 }
 
 // The lines below the header.
-fn read_lines(text: &[u8], code: &mut [u16; 4896], table: &mut [u16; TABLE_CELLS]) -> Answer
+fn read_lines(text: &[u8], code: &mut [u16; CODE_PLACES], table: &mut [u16; TABLE_CELLS]) -> Answer
     requires { ⌜ length (now text) ≤ mostBytes ⌝ }
     ensures { λ r. ⌜ Answers (now (text .entry)) (readLines nothing 2 (lines (after lineFeed (now (text .entry))))) r
         (now (code .entry)) (now (code .exit)) (now (table .entry)) (now (table .exit)) ⌝ }
@@ -161,7 +164,7 @@ fn read_lines(text: &[u8], code: &mut [u16; 4896], table: &mut [u16; TABLE_CELLS
 }
 
 // Reads a description: what it says goes into the lent tables.
-pub fn read(text: &[u8], code: &mut [u16; 4896], table: &mut [u16; TABLE_CELLS]) -> Answer
+pub fn read(text: &[u8], code: &mut [u16; CODE_PLACES], table: &mut [u16; TABLE_CELLS]) -> Answer
     ensures { λ r. ⌜ Answers (now (text .entry)) (readText (now (text .entry))) r
         (now (code .entry)) (now (code .exit)) (now (table .entry)) (now (table .exit)) ⌝ }
 {

@@ -1,6 +1,6 @@
 -- The laws of parts: what each word that is put into the table makes of what was read, over any tree.
 -- Assumes nothing.
-use mathlib.Core.Path.{_≡_, refl, sym, ap, _∙_}
+use mathlib.Core.Path.{_≡_, refl, sym, ap, subst, _∙_}
 use mathlib.Core.List.{List, [], _∷_, _++_, append-assoc}
 use Prim.Native.Nat.{ℕ, zero, suc, _+_, _*_, _≤_, _<_}
 use native.Mathlib.Omega.{arith}
@@ -14,8 +14,7 @@ use Rattle.token.specs.Operators.{rowOf, entryIn}
 use Rattle.expression.specs.Tree.{Expr, width, pieces}
 use Rattle.expression.specs.Grammar.{Reading, read, outside, limited}
 use Rattle.expression.specs.Code.{codeOf}
-use Rattle.expression.specs.Met.{Held, Leaf}
-use Rattle.token.proofs.Onward.{Past}
+use Rattle.expression.specs.Met.{Held, Leaf, Single}
 use Rattle.expression.proofs.Calls.{met}
 use Rattle.expression.proofs.Stores.{sets-behind}
 
@@ -31,18 +30,6 @@ too-wide t p h = rw (lt-leb (width t) widest h, limited)
 -- the cursor behind one word and so many pieces more
 abbrev pub behind : Cursor → ℕ → ℕ → Cursor
 behind c p n = record { place = p; words = c .words + 1; pieces = c .pieces + n }
-
--- a tree of one word
-pub alone : (t : Expr) (p k a b d : ℕ) (from : Cursor) (before : List ℕ) → codeOf t ≡ (k ∷ a ∷ b ∷ d ∷ []) → pieces t ≡ 1
-    → Held t p (behind from p 1) (width t) from before (sets before (4 * from .words) (k ∷ a ∷ b ∷ d ∷ []))
-alone t p k a b d from before e n =
-    record {
-      place-is = refl;
-      width-is = refl;
-      pieces-are = ap (λ (x : ℕ). from .pieces + x) (sym n);
-      words-are = omega (arith, ap length e);
-      code-is = ap (sets before (4 * from .words)) (sym e);
-    }
 
 -- a tree u that puts one word behind the words of t
 pub over : (t u : Expr) (p q k a b d n : ℕ) (c : Cursor) (w : ℕ) (from : Cursor) (before now : List ℕ)
@@ -93,17 +80,28 @@ row-is (suc (suc (suc (suc (suc (suc (suc (suc zero)))))))) h = refl
 row-is (suc (suc (suc (suc (suc (suc (suc (suc (suc zero))))))))) h = refl
 row-is (suc (suc (suc (suc (suc (suc (suc (suc (suc (suc n)))))))))) h = absurd (omega arith)
 
--- a leaf that was read, and one that wasn't
-module _ (x : Reading) (s : List ℕ) (from : Cursor) (before : List ℕ) where
-  pub leaf : (t : Expr) (p k a b d : ℕ) → x ≡ limited t p → codeOf t ≡ (k ∷ a ∷ b ∷ d ∷ []) → pieces t ≡ 1 → width t ≤ widest → Past s (from .place) p
-      → Leaf x s (from .place + 1) (from .words + 1) (from .pieces + 1) (Found (behind from p 1) (width t)) from before (sets before (4 * from .words) (k ∷ a ∷ b ∷ d ∷ []))
-  leaf t p k a b d e code n w o =
+-- a tree of one word that is narrow enough, and one that isn't
+module _ (from : Cursor) (before : List ℕ) (p w : ℕ) where
+  pub leaf : (k a b d : ℕ) → w ≤ widest
+      → Single p w (k ∷ a ∷ b ∷ d ∷ []) (Found (behind from p 1) w) from before (sets before (4 * from .words) (k ∷ a ∷ b ∷ d ∷ []))
+  leaf k a b d h x t s e v code n o i =
       record {
         meets =
-            met x (read t p) (Found (behind from p 1) (width t)) from before (sets before (4 * from .words) (k ∷ a ∷ b ∷ d ∷ [])) (e ∙ is-limited t p w)
-            (alone t p k a b d from before code n);
-        grown = record { onward = omega arith; inside = o .1; words-most = omega arith; pieces-most = omega arith; narrow = w };
+            met x (read t p) (Found (behind from p 1) w) from before (sets before (4 * from .words) (k ∷ a ∷ b ∷ d ∷ []))
+            (e ∙ is-limited t p (subst (λ (z : ℕ). z ≤ widest) v h))
+            (record {
+              place-is = refl;
+              width-is = v;
+              pieces-are = ap (λ (z : ℕ). from .pieces + z) (sym n);
+              words-are = omega (arith, ap length code);
+              code-is = ap (sets before (4 * from .words)) code;
+            });
+        grown = record { onward = omega arith; inside = i; words-most = omega arith; pieces-most = omega arith; narrow = h };
       }
 
-  pub no-leaf : (a words pieces : ℕ) (after : List ℕ) → x ≡ outside → Leaf x s a words pieces Fault from before after
-  no-leaf a words pieces after e = record { meets = met x outside Fault from before after e tt; grown = tt }
+  pub wide-leaf : (word after : List ℕ) → widest < w → Single p w word Fault from before after
+  wide-leaf word after h x t s e v code n o i =
+      record { meets = met x outside Fault from before after (e ∙ too-wide t p (subst (λ (z : ℕ). widest < z) v h)) tt; grown = tt }
+
+pub no-leaf : (x : Reading) (s : List ℕ) (a words pieces : ℕ) (from : Cursor) (before after : List ℕ) → x ≡ outside → Leaf x s a words pieces Fault from before after
+no-leaf x s a words pieces from before after e = record { meets = met x outside Fault from before after e tt; grown = tt }

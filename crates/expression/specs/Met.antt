@@ -2,7 +2,7 @@
 -- Assumes nothing.
 use mathlib.Core.Path.{_≡_}
 use mathlib.Core.List.{List}
-use Prim.Native.Nat.{ℕ, _+_, _-_, _*_, _≤_}
+use Prim.Native.Nat.{ℕ, _+_, _-_, _*_, _≤_, _<_}
 use lib.ListN.{length}
 use lib.Seq.{sets}
 use Rattle.word.specs.Word.{widest}
@@ -12,7 +12,7 @@ use Rattle.expression.specs.declared.code.Part.the-variants.{Found, Faul
 use Rattle.expression.specs.declared.fields.Place.{Place}
 use Rattle.expression.specs.declared.fields.Place.the-variants.{Register, Bits, Word, Nowhere}
 use Rattle.expression.specs.Tree.{Expr, width, pieces}
-use Rattle.expression.specs.Grammar.{Reading, read, outside, notOf, whole, Destination, toRegister, toPart, toMemory, nowhere, ofAddress}
+use Rattle.expression.specs.Grammar.{Reading, read, outside, limited, notOf, whole, Destination, toRegister, toPart, toMemory, nowhere, ofAddress}
 use Rattle.expression.specs.Code.{codeOf}
 
 -- how many words the table holds: 1,024 pieces, and a line of 200 bytes, each of which makes at most one
@@ -56,6 +56,12 @@ Grown s a words pieces Fault = Unit {0}
 pub record Leaf (x : Reading) (s : List ℕ) (a words pieces : ℕ) (r : Part) (from : Cursor) (before after : List ℕ) : Type 0 where
   pub meets : Meets x r from before after
   pub grown : Grown s a words pieces r
+
+-- a tree of one word that ends at a place, whatever it is
+abbrev pub Single : ℕ → ℕ → List ℕ → Part → Cursor → List ℕ → List ℕ → Type 0
+Single p w word r from before after =
+    (x : Reading) (t : Expr) (s : List ℕ) → x ≡ limited t p → w ≡ width t → word ≡ codeOf t → pieces t ≡ 1 → from .place < p → p ≤ length s
+    → Leaf x s (from .place + 1) (from .words + 1) (from .pieces + 1) r from before after
 
 -- a part that is made of one that was read, whatever that was
 pub record Made (g : Reading → Reading) (s : List ℕ) (a words pieces : ℕ) (c : Cursor) (w : ℕ) (r : Part) (now after : List ℕ) : Type 0 where

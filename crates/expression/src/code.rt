@@ -18,7 +18,10 @@ ghost use Rattle.text.specs.Names.{entries};
 ghost use Rattle.text.specs.Constants.{constantAt, decimalAt};
 ghost use Rattle.token.specs.References.{skip, referenceAt};
 ghost use Rattle.expression.specs.Grammar.{ofConstant, ofReference, closed, turned, joined};
-ghost use Rattle.expression.specs.Met.{Room, Leaf, Made, Behind, Combined, Turned, capacity};
+ghost use Rattle.expression.specs.Met.{Single, Room, Leaf, Made, Behind, Combined, Turned, capacity};
+
+// The places of the table of words: four for each of 1,024 pieces, and for each byte of a line of 200.
+pub const CODE_PLACES: usize = 4896;
 
 // Where reading stands: the place in the field, and the words and pieces so far.
 pub struct Cursor {
@@ -34,7 +37,7 @@ pub enum Part {
 }
 
 // Puts a word into the table.
-fn emit(code: &mut [u16; 4896], words: usize, kind: u16, a: u16, b: u16, c: u16)
+fn emit(code: &mut [u16; CODE_PLACES], words: usize, kind: u16, a: u16, b: u16, c: u16)
     requires { ⌜ words < capacity ⌝ }
     ensures { λ _. ⌜ now (code .exit) ≡ sets (now (code .entry)) (4 * words) (kind ∷ a ∷ b ∷ c ∷ []) ⌝ }
 {
@@ -57,8 +60,30 @@ fn one_more(c: Cursor, place: usize) -> Cursor
     }
 }
 
+// A word of its own for what was read up to a place, unless that is wider than 16 bits.
+fn leaf_part(
+    code: &mut [u16; 4896],
+    c: Cursor,
+    place: usize,
+    width: u16,
+    kind: u16,
+    x: u16,
+    y: u16,
+    z: u16,
+) -> Part
+    requires { ⌜ c .words < capacity ⌝ ∗ ⌜ c .pieces < capacity ⌝ }
+    ensures { λ r. ⌜ Single place width (kind ∷ x ∷ y ∷ z ∷ []) r c (now (code .entry)) (now (code .exit)) ⌝ }
+{
+    if width <= 16 {
+        emit(code, c.words, kind, x, y, z);
+        Part::Found(one_more(c, place), width)
+    } else {
+        Part::Fault
+    }
+}
+
 // The constant at the cursor.
-pub(crate) fn constant_part(s: &[u8], code: &mut [u16; 4896], c: Cursor) -> Part
+pub(crate) fn constant_part(s: &[u8], code: &mut [u16; CODE_PLACES], c: Cursor) -> Part
     requires { ⌜ Room (now s) c 0 ⌝ }
     ensures { λ r. ⌜ Leaf (ofConstant (constantAt (now (s .entry)) (c .place))) (now (s .entry)) (c .place + 1) (c .words + 1) (c .pieces + 1)
         r c (now (code .entry)) (now (code .exit)) ⌝ }
@@ -68,14 +93,7 @@ pub(crate) fn constant_part(s: &[u8], code: &mut [u16; 4896], c: Cursor) -> Part
             value,
             width,
             place,
-        } => {
-            if width <= 16 {
-                emit(code, c.words, 2, value, width, 0);
-                Part::Found(one_more(c, place), width)
-            } else {
-                Part::Fault
-            }
-        }
+        } => leaf_part(code, c, place, width, 2, value, width, 0),
         Constant::Missing => Part::Fault,
     }
 }
@@ -85,7 +103,7 @@ pub(crate) fn reference_part(
     text: &[u8],
     d: Dictionary,
     s: &[u8],
-    code: &mut [u16; 4896],
+    code: &mut [u16; CODE_PLACES],
     c: Cursor,
 ) -> Part
     requires { ⌜ Room (now s) c 0 ⌝ ∗ ⌜ d .count ≤ 32 ⌝ ∗ ⌜ isWord (getD (now s) (c .place) 0) ≡ true ⌝ }
@@ -97,14 +115,7 @@ pub(crate) fn reference_part(
             register,
             width,
             place,
-        } => {
-            if width <= 16 {
-                emit(code, c.words, 0, register, width, 0);
-                Part::Found(one_more(c, place), width)
-            } else {
-                Part::Fault
-            }
-        }
+        } => leaf_part(code, c, place, width, 0, register, width, 0),
         Reference::Part {
             register,
             width,
@@ -113,12 +124,7 @@ pub(crate) fn reference_part(
             place,
         } => {
             let size = last - first + 1;
-            if size <= 16 {
-                emit(code, c.words, 1, register, width - 1 - last, size);
-                Part::Found(one_more(c, place), size)
-            } else {
-                Part::Fault
-            }
+            leaf_part(code, c, place, size, 1, register, width - 1 - last, size)
         }
         Reference::Unknown => Part::Fault,
     }
@@ -127,7 +133,7 @@ pub(crate) fn reference_part(
 // What stands in brackets, once it is read: the closing byte, and for a memory word its own word.
 pub(crate) fn closed_part(
     s: &[u8],
-    code: &mut [u16; 4896],
+    code: &mut [u16; CODE_PLACES],
     c: Cursor,
     width: u16,
     close: u8,
@@ -155,7 +161,7 @@ pub(crate) fn closed_part(
 }
 
 // What was read, turned over.
-pub(crate) fn complemented_part(code: &mut [u16; 4896], c: Cursor, width: u16) -> Part
+pub(crate) fn complemented_part(code: &mut [u16; CODE_PLACES], c: Cursor, width: u16) -> Part
     requires { ⌜ c .words < capacity ⌝ ∗ ⌜ c .pieces < capacity ⌝ }
     ensures { λ r. ⌜ Turned c width r (now (code .entry)) (now (code .exit)) ⌝ }
 {
@@ -166,7 +172,7 @@ pub(crate) fn complemented_part(code: &mut [u16; 4896], c: Cursor, width: u16) -
 // A rotation of what was read, by the count that stands at a place.
 pub(crate) fn rotated_part(
     s: &[u8],
-    code: &mut [u16; 4896],
+    code: &mut [u16; CODE_PLACES],
     row: usize,
     c: Cursor,
     width: u16,
@@ -198,7 +204,7 @@ pub(crate) fn rotated_part(
 
 // A left and a right side, once both are read, under the operator of a row.
 pub(crate) fn joined_part(
-    code: &mut [u16; 4896],
+    code: &mut [u16; CODE_PLACES],
     row: usize,
     left: Cursor,
     width: u16,

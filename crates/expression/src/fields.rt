@@ -1,4 +1,5 @@
 // Whole fields: an expression, and a destination.
+use crate::code::CODE_PLACES;
 use crate::code::Cursor;
 use crate::code::Part;
 use crate::grammar;
@@ -61,7 +62,7 @@ pub fn read_expression(
     text: &[u8],
     d: Dictionary,
     s: &[u8],
-    code: &mut [u16; 4896],
+    code: &mut [u16; CODE_PLACES],
     words: usize,
     pieces: usize,
 ) -> Part
@@ -146,7 +147,7 @@ fn memory_place(
     text: &[u8],
     d: Dictionary,
     s: &[u8],
-    code: &mut [u16; 4896],
+    code: &mut [u16; CODE_PLACES],
     words: usize,
     pieces: usize,
     end: usize,
@@ -176,7 +177,7 @@ pub fn read_destination(
     text: &[u8],
     d: Dictionary,
     s: &[u8],
-    code: &mut [u16; 4896],
+    code: &mut [u16; CODE_PLACES],
     words: usize,
     pieces: usize,
 ) -> Place

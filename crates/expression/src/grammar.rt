@@ -1,5 +1,6 @@
 // The grammar by strengths: level, operation, operand and bracketed part call each other while the unread length falls.
 use crate::code;
+use crate::code::CODE_PLACES;
 use crate::code::Cursor;
 use crate::code::Part;
 use text::bytes;
@@ -26,7 +27,7 @@ pub(crate) fn read_level(
     text: &[u8],
     d: Dictionary,
     s: &[u8],
-    code: &mut [u16; 4896],
+    code: &mut [u16; CODE_PLACES],
     depth: usize,
     strength: u8,
     c: Cursor,
@@ -51,7 +52,7 @@ fn read_more(
     text: &[u8],
     d: Dictionary,
     s: &[u8],
-    code: &mut [u16; 4896],
+    code: &mut [u16; CODE_PLACES],
     depth: usize,
     strength: u8,
     left: Cursor,
@@ -77,7 +78,7 @@ fn read_operation(
     text: &[u8],
     d: Dictionary,
     s: &[u8],
-    code: &mut [u16; 4896],
+    code: &mut [u16; CODE_PLACES],
     depth: usize,
     strength: u8,
     left: Cursor,
@@ -110,7 +111,7 @@ fn read_operand(
     text: &[u8],
     d: Dictionary,
     s: &[u8],
-    code: &mut [u16; 4896],
+    code: &mut [u16; CODE_PLACES],
     depth: usize,
     c: Cursor,
 ) -> Part
@@ -146,7 +147,7 @@ fn read_worded(
     text: &[u8],
     d: Dictionary,
     s: &[u8],
-    code: &mut [u16; 4896],
+    code: &mut [u16; CODE_PLACES],
     depth: usize,
     c: Cursor,
 ) -> Part
@@ -186,7 +187,7 @@ fn read_negated(
     text: &[u8],
     d: Dictionary,
     s: &[u8],
-    code: &mut [u16; 4896],
+    code: &mut [u16; CODE_PLACES],
     depth: usize,
     c: Cursor,
 ) -> Part
@@ -211,7 +212,7 @@ fn read_enclosed(
     text: &[u8],
     d: Dictionary,
     s: &[u8],
-    code: &mut [u16; 4896],
+    code: &mut [u16; CODE_PLACES],
     depth: usize,
     close: u8,
     c: Cursor,

@@ -2,7 +2,7 @@
 -- Assumes nothing.
 use mathlib.Core.List.{List, [], _∷_}
 use Prim.Native.Nat.{ℕ}
-use Rattle.description.specs.Faults.{numberOf}
+use Rattle.declaration.specs.Faults.{numberOf}
 use Rattle.description.specs.Description.{Answer, accepted, turnedDown}
 
 -- "outcome[0]: 0, or the refusal's number. outcome[1]: .. the line .. (0 if accepted)"

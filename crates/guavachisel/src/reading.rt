@@ -1,9 +1,10 @@
 // The reader for C callers: guavachisel_read of include/guavachisel.h.
-use description::faults::Fault;
-use description::limits::TABLE_CELLS;
+use declaration::faults::Fault;
 use description::reader::Verdict;
+use expression::code::CODE_PLACES;
+use row::limits::TABLE_CELLS;
 ghost use mathlib.Core.Path.{_≡_};
-ghost use Rattle.description.specs.Faults.{numberOf};
+ghost use Rattle.declaration.specs.Faults.{numberOf};
 ghost use Rattle.description.specs.Description.{readText};
 ghost use Rattle.guavachisel.specs.Reading.{outcomeOf};
 
@@ -28,7 +29,7 @@ fn fault_number(f: Fault) -> u64
 pub extern "C" fn guavachisel_read(text: &[u8], outcome: &mut [u64; 2])
     ensures { λ r. ⌜ now (outcome .exit) ≡ outcomeOf (readText (now (text .entry))) ⌝ }
 {
-    let mut code = [0u16; 4896];
+    let mut code = [0u16; CODE_PLACES];
     let mut table = [0u16; TABLE_CELLS];
     let answer = description::reader::read(text, &mut code, &mut table);
     let verdict = answer.verdict;

@@ -10,14 +10,10 @@ use lib.Dec.{eqb, ltb, leb·suc-suc}
 use lib.ListN.{length, take, drop, length-take}
 use borrow.Author.Tests.{lt-ltb}
 use Rattle.text.specs.Bytes.{run}
-use Rattle.text.specs.Fields.{tab, lineFeed, until, before, after, Line, push, lines, field, hasFields}
+use Rattle.text.specs.Fields.{tab, lineFeed, until, before, after, Line, push, lines, firstLine, field, hasFields}
 use Rattle.text.specs.declared.bytes.Class.the-variants.{Other}
 use Rattle.text.proofs.Runs.{run-le, run-more, run-none}
 use Rattle.text.proofs.Tests.{by-test}
-
--- the first line of a text
-abbrev pub firstLine : List ℕ → Line
-firstLine s = record { bytes = before lineFeed s; ended = ltb (until lineFeed s) (length s) }
 
 module _ (b : ℕ) (s : List ℕ) where
   ends : eqb b lineFeed ≡ true → lines (b ∷ s) ≡ record { bytes = []; ended = true } ∷ lines s
@@ -58,6 +54,16 @@ lines-split b (x ∷ t) =
     by-test (eqb b lineFeed)
     (λ e. ended b (x ∷ t) e)
     (λ e. goes-on b (x ∷ t) e ∙ ap (push b) (lines-split x t) ∙ pushed b (x ∷ t) e)
+
+-- the same of a text that isn't empty, and of one that is
+pub first-line : (s : List ℕ) → 0 < length s → lines s ≡ firstLine s ∷ lines (after lineFeed s)
+first-line [] h = absurd (omega arith)
+first-line (b ∷ s) h = lines-split b s
+
+pub no-line : (s : List ℕ) → length s ≤ 0 → lines s ≡ []
+unfolding lines
+no-line [] h = refl
+no-line (b ∷ s) h = absurd (omega arith)
 
 pub before-length : (b : ℕ) (s : List ℕ) → length (before b s) ≡ until b s
 before-length b s = length-take (until b s) s ∙ omega (arith, run-le (Other b) s)

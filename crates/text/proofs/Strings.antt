@@ -7,9 +7,11 @@ use Prim.Native.Nat.{ℕ, zero, suc, _+_, _-_, _≤_, _<_}
 use native.Mathlib.Numerals.{add-one}
 use native.Mathlib.Omega.{arith}
 use lib.Dec.{eqb}
+use borrow.Author.Tests.{eqb-true}
 use lib.ListN.{length, getD, take, drop, length-drop, drop-of-length-le}
 use lib.Seq.{drop-cons, take-all, take-nil}
 use Rattle.text.specs.Bytes.{same}
+use Rattle.text.proofs.Tests.{and-left, and-right}
 
 -- strings of unequal lengths
 pub unequal : (a b : List ℕ) → (length a ≡ length b → ⊥) → same a b ≡ false
@@ -22,6 +24,15 @@ unequal (x ∷ a) (y ∷ b) h = rw (unequal a b (λ e. h (ap suc e))) (both (eqb
     both : (t : Bool) → t && false ≡ false
     both true = refl
     both false = refl
+
+-- strings that are the same are equal
+pub equal : (a b : List ℕ) → same a b ≡ true → a ≡ b
+unfolding same
+equal [] [] e = refl
+equal [] (y ∷ b) e = absurd (mathlib.Core.Bool.false≢true e)
+equal (x ∷ a) [] e = absurd (mathlib.Core.Bool.false≢true e)
+equal (x ∷ a) (y ∷ b) e =
+    ap (λ (k : ℕ). k ∷ a) (eqb-true x y (and-left (eqb x y) (same a b) e)) ∙ ap (λ (l : List ℕ). y ∷ l) (equal a b (and-right (eqb x y) (same a b) e))
 
 module _ (a b : List ℕ) (i : ℕ) where
   -- from a place within both, and past their end

@@ -21,11 +21,7 @@ pub fn part_after(s: &[u8], b: u8) -> &[u8]
     ensures { λ r. ⌜ now r ≡ after b (now (s .entry)) ⌝ }
 {
     let end = bytes::run_end(s, 0, Class::Other(b));
-    if end < s.len() {
-        &s[end + 1..]
-    } else {
-        &s[s.len()..]
-    }
+    bytes::part(s, end + 1, s.len())
 }
 
 // Field n of a line, from 0.

@@ -1,4 +1,4 @@
--- Whatever is read ends after its start and within the field; and what is told of the bit numbers that are read.
+-- Whatever is read ends after its start and within the field; a register that is read is one of the list, and bit numbers are below its width.
 -- Assumes nothing.
 use mathlib.Core.Path.{_≡_, refl, sym, ap, subst, _∙_}
 use mathlib.Core.Bool.{Bool, true, false, _&&_, _||_}

@@ -1,5 +1,5 @@
--- `description::reader::has_run`: the place of RUN, and its width.
-use Rattle.description.proofs.Reading.{run-found}
+-- `reader::has_run`: the place of RUN, and its width.
+use Rattle.description.proofs.Texts.{run-found}
 use borrow.Author.Needs.{needs}
 use Rattle.description.proofs.reader.has_run.Statement.{statement}
 use Rattle.description.proofs.reader.has_run.Tie as tie

@@ -1,4 +1,4 @@
--- `description::reader::is_fit`: the three tests.
+-- `reader::is_fit`: the three tests.
 use mathlib.Core.Path.{ap, _∙_}
 use mathlib.Core.Bool.{_&&_}
 use Prim.Native.Nat.{ℕ}
@@ -8,7 +8,7 @@ use Rattle.text.specs.Fields.{lineFeed, until}
 use Rattle.text.specs.declared.bytes.Class.the-variants.{Printable}
 use Rattle.text.proofs.Lines.{before-length}
 use Rattle.text.proofs.Runs.{from-start}
-use Rattle.description.specs.Lines.{longestLine}
+use Rattle.declaration.specs.Limits.{longestLine}
 use borrow.Author.Needs.{needs}
 use Rattle.description.proofs.reader.is_fit.Statement.{statement}
 use Rattle.description.proofs.reader.is_fit.Tie as tie

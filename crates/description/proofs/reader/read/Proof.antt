@@ -1,19 +1,16 @@
--- `description::reader::read`: size, header, then the lines.
+-- `reader::read`: size, header, then the lines.
 use mathlib.Core.Path.{sym, ap, _∙_}
-use mathlib.Core.Bool.{not}
 use mathlib.Core.List.{List}
 use Prim.Native.Nat.{ℕ}
 use native.Mathlib.Omega.{arith}
-use lib.Dec.{ltb}
 use lib.ListN.{length}
 use borrow.Author.Needs.{needs}
-use borrow.Author.Tests.{le-leb, lt-leb, lt-ltb, le-ltb}
+use borrow.Author.Tests.{le-leb, lt-leb, lt-ltb, le-ltb, not-true, not-false}
 use Rattle.text.specs.Bytes.{same}
 use Rattle.text.specs.Fields.{lineFeed, until}
 use Rattle.text.proofs.Lines.{before-length}
 use Rattle.description.specs.Description.{header}
-use Rattle.description.proofs.Rowing.{not-true, not-false}
-use Rattle.description.proofs.Reading.{answers-refused, answers-as, too-long, no-header, header-alone, after-header}
+use Rattle.description.proofs.Texts.{answers-refused, answers-as, too-long, no-header, header-alone, after-header}
 use Rattle.description.proofs.reader.read.Statement.{statement}
 use Rattle.description.proofs.reader.read.Tie as tie
 

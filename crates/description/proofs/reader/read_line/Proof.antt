@@ -1,18 +1,16 @@
--- `description::reader::read_line`: by the first word.
+-- `reader::read_line`: by the first word.
 use mathlib.Core.Path.{sym, ap, _∙_}
 use mathlib.Core.List.{List}
 use Prim.Native.Nat.{ℕ}
 use native.Mathlib.Omega.{arith}
-use lib.Dec.{ltb}
 use lib.ListN.{length}
 use Rattle.text.specs.Bytes.{same}
-use Rattle.text.specs.Fields.{lineFeed, until, after, lines, field}
-use Rattle.description.specs.declared.faults.Fault.the-variants.{Line}
-use Rattle.description.specs.Lines.{regWord, doWord, goWord, atWord, isFit, regLine, doLine, goLine, atLine, readLine}
-use Rattle.description.specs.Stored.{firstLine}
-use Rattle.description.proofs.Fielding.{after-le}
-use Rattle.description.proofs.Rowing.{takes-refused, takes-as, takes-plain, not-true, not-false}
-use Rattle.description.proofs.Reading.{line-unfit, line-reg, line-do, line-go, line-at, line-unknown, line-stands, line-fits, fit-length}
+use Rattle.text.specs.Fields.{lineFeed}
+use Rattle.declaration.specs.Lines.{regWord, atWord}
+use Rattle.declaration.proofs.Fields.{after-le}
+use Rattle.row.proofs.RowLines.{takes-plain}
+use borrow.Author.Tests.{not-true, not-false}
+use Rattle.description.proofs.Texts.{line-stands, line-fits, fit-length, comes-unfit, comes-reg, comes-do, comes-go, comes-at, comes-unknown}
 use borrow.Author.Needs.{needs}
 use Rattle.description.proofs.reader.read_line.Statement.{statement}
 use Rattle.description.proofs.reader.read_line.Tie as tie
@@ -30,10 +28,8 @@ refused-requires c κs = search needs
 returns : tie.Need-returns
 returns c =
     let a = c .before .before .before .before .before .before .args in
-    let line = c .before .before .before .part-before .ensures in
-    takes-refused _ (λ p. readLine p (a .n) (lines (after lineFeed (a .rest .now))) (firstLine (a .rest .now))) (a .q) Line _ (c .refused .ensures)
-    (λ rs. line-unfit _ (a .n) _ _ (ap (λ (l : List ℕ). isFit (record { bytes = l; ended = ltb (until lineFeed (a .rest .now)) (length (a .rest .now)) })) (sym line) ∙ sym (c .before .before .is-fit .ensures) ∙ not-true _ (c .before .if1 .taken)))
-    (c .before .before .before .before .before .before .pre .0)
+    comes-unfit (a .text .now) (a .q) (a .n) (a .rest .now) (c .before .before .before .part-before .result .now) (c .before .before .before .part-before .ensures) (c .refused .result)
+    (sym (c .before .before .is-fit .ensures) ∙ not-true _ (c .before .if1 .taken)) (c .refused .ensures) (c .before .before .before .before .before .before .pre .0)
 
 field-of-requires : tie.Need-field-of-requires
 field-of-requires c κs = search needs
@@ -57,11 +53,9 @@ reg-line-requires c κs =
 returns-2 : tie.Need-returns-2
 returns-2 c =
     let a = c .before .before .before .before .before .before .before .before .before .before .args in
-    let line = c .before .before .before .before .before .before .before .part-before .ensures in
-    let fit = ap (λ (l : List ℕ). isFit (record { bytes = l; ended = ltb (until lineFeed (a .rest .now)) (length (a .rest .now)) })) (sym line) ∙ sym (c .before .before .before .before .before .before .is-fit .ensures) ∙ not-false _ (c .before .before .before .before .before .if1 .left) in
-    takes-as _ (λ p. readLine p (a .n) (lines (after lineFeed (a .rest .now))) (firstLine (a .rest .now))) (λ p. regLine p (c .before .before .before .before .before .before .before .part-before .result .now)) (a .q) _
-    (λ rs. line-reg _ (a .n) _ _ fit (ap (λ (l : List ℕ). same (field 0 l) regWord) (sym line) ∙ ap (λ (l : List ℕ). same l regWord) (sym (c .before .before .before .before .field-of .ensures)) ∙ sym (c .before .before .is-same .ensures) ∙ c .before .if2 .taken) ∙ ap (regLine _) (sym line))
-    (takes-plain _ _ (a .q) _ (c .reg-line .ensures))
+    comes-reg (a .text .now) (a .q) (a .n) (a .rest .now) (c .before .before .before .before .before .before .before .part-before .result .now) (c .before .before .before .before .before .before .before .part-before .ensures) (c .reg-line .result)
+    (sym (c .before .before .before .before .before .before .is-fit .ensures) ∙ not-false _ (c .before .before .before .before .before .if1 .left)) (c .before .before .before .before .field-of .result .now) (c .before .before .before .before .field-of .ensures)
+    (sym (c .before .before .is-same .ensures) ∙ c .before .if2 .taken) (takes-plain _ _ (a .q) _ (c .reg-line .ensures))
 
 slice-aggregate-is-same-2 : tie.Need-slice-aggregate-is-same-2
 slice-aggregate-is-same-2 c = search needs
@@ -71,16 +65,14 @@ is-same-requires-2 c κs = search needs
 
 do-line-requires : tie.Need-do-line-requires
 do-line-requires c κs =
-    (c .before .before .before .before .before .before .before .before .before .before .before .before .before .before .pre .0, fit-length (c .before .before .before .before .before .before .before .before .before .before .before .part-before .result .now) (ltb (until lineFeed (c .before .before .before .before .before .before .before .before .before .before .before .before .before .before .args .rest .now)) (length (c .before .before .before .before .before .before .before .before .before .before .before .before .before .before .args .rest .now))) (sym (c .before .before .before .before .before .before .before .before .before .before .is-fit .ensures) ∙ not-false _ (c .before .before .before .before .before .before .before .before .before .if1 .left)))
+    (c .before .before .before .before .before .before .before .before .before .before .before .before .before .before .pre .0, fit-length (c .before .before .before .before .before .before .before .before .before .before .before .before .before .before .args .rest .now) (c .before .before .before .before .before .before .before .before .before .before .before .part-before .result .now) (sym (c .before .before .before .before .before .before .before .before .before .before .is-fit .ensures) ∙ not-false _ (c .before .before .before .before .before .before .before .before .before .if1 .left)))
 
 returns-3 : tie.Need-returns-3
 returns-3 c =
     let a = c .before .before .before .before .before .before .before .before .before .before .before .before .before .before .before .args in
-    let line = c .before .before .before .before .before .before .before .before .before .before .before .before .part-before .ensures in
-    let fit = ap (λ (l : List ℕ). isFit (record { bytes = l; ended = ltb (until lineFeed (a .rest .now)) (length (a .rest .now)) })) (sym line) ∙ sym (c .before .before .before .before .before .before .before .before .before .before .before .is-fit .ensures) ∙ not-false _ (c .before .before .before .before .before .before .before .before .before .before .if1 .left) in
-    takes-as _ (λ p. readLine p (a .n) (lines (after lineFeed (a .rest .now))) (firstLine (a .rest .now))) (λ p. doLine p (c .before .before .before .before .before .before .before .before .before .before .before .before .part-before .result .now)) (a .q) _
-    (λ rs. line-do _ (a .n) _ _ fit (ap (λ (l : List ℕ). same (field 0 l) regWord) (sym line) ∙ ap (λ (l : List ℕ). same l regWord) (sym (c .before .before .before .before .before .before .before .before .before .field-of .ensures)) ∙ sym (c .before .before .before .before .before .before .before .is-same .ensures) ∙ c .before .before .before .before .before .before .if2 .left) (ap (λ (l : List ℕ). same (field 0 l) doWord) (sym line) ∙ ap (λ (l : List ℕ). same l doWord) (sym (c .before .before .before .before .before .before .before .before .before .field-of .ensures)) ∙ sym (c .before .before .before .before .is-same2 .ensures) ∙ c .before .before .before .if3 .taken) ∙ ap (doLine _) (sym line))
-    (c .do-line .ensures)
+    comes-do (a .text .now) (a .q) (a .n) (a .rest .now) (c .before .before .before .before .before .before .before .before .before .before .before .before .part-before .result .now) (c .before .before .before .before .before .before .before .before .before .before .before .before .part-before .ensures) (c .do-line .result)
+    (sym (c .before .before .before .before .before .before .before .before .before .before .before .is-fit .ensures) ∙ not-false _ (c .before .before .before .before .before .before .before .before .before .before .if1 .left)) (c .before .before .before .before .before .before .before .before .before .field-of .result .now) (c .before .before .before .before .before .before .before .before .before .field-of .ensures)
+    (sym (c .before .before .before .before .before .before .before .is-same .ensures) ∙ c .before .before .before .before .before .before .if2 .left) (sym (c .before .before .before .before .is-same2 .ensures) ∙ c .before .before .before .if3 .taken) (c .do-line .ensures)
 
 slice-aggregate-is-same-3 : tie.Need-slice-aggregate-is-same-3
 slice-aggregate-is-same-3 c = search needs
@@ -94,16 +86,15 @@ part-after-requires c κs = search needs
 go-line-requires : tie.Need-go-line-requires
 go-line-requires c κs =
     let p = c .before .before .before .before .before .before .before .before .before .before .before .before .before .before .before .before .before .before .pre in
-    (p .0, (fit-length (c .before .before .before .before .before .before .before .before .before .before .before .before .before .before .before .part-before .result .now) (ltb (until lineFeed (c .before .before .before .before .before .before .before .before .before .before .before .before .before .before .before .before .before .before .args .rest .now)) (length (c .before .before .before .before .before .before .before .before .before .before .before .before .before .before .before .before .before .before .args .rest .now))) (sym (c .before .before .before .before .before .before .before .before .before .before .before .before .before .before .is-fit .ensures) ∙ not-false _ (c .before .before .before .before .before .before .before .before .before .before .before .before .before .if1 .left)), omega (arith, p .1 .0, p .1 .1 .fits, ap length (c .before .before .part-after .ensures), after-le lineFeed (c .before .before .before .before .before .before .before .before .before .before .before .before .before .before .before .before .before .before .args .rest .now))))
+    (p .0, (fit-length (c .before .before .before .before .before .before .before .before .before .before .before .before .before .before .before .before .before .before .args .rest .now) (c .before .before .before .before .before .before .before .before .before .before .before .before .before .before .before .part-before .result .now) (sym (c .before .before .before .before .before .before .before .before .before .before .before .before .before .before .is-fit .ensures) ∙ not-false _ (c .before .before .before .before .before .before .before .before .before .before .before .before .before .if1 .left)), omega (arith, p .1 .0, p .1 .1 .fits, ap length (c .before .before .part-after .ensures), after-le lineFeed (c .before .before .before .before .before .before .before .before .before .before .before .before .before .before .before .before .before .before .args .rest .now))))
 
 returns-4 : tie.Need-returns-4
 returns-4 c =
     let a = c .before .before .before .before .before .before .before .before .before .before .before .before .before .before .before .before .before .before .before .args in
-    let line = c .before .before .before .before .before .before .before .before .before .before .before .before .before .before .before .before .part-before .ensures in
-    let fit = ap (λ (l : List ℕ). isFit (record { bytes = l; ended = ltb (until lineFeed (a .rest .now)) (length (a .rest .now)) })) (sym line) ∙ sym (c .before .before .before .before .before .before .before .before .before .before .before .before .before .before .before .is-fit .ensures) ∙ not-false _ (c .before .before .before .before .before .before .before .before .before .before .before .before .before .before .if1 .left) in
-    takes-as _ (λ p. readLine p (a .n) (lines (after lineFeed (a .rest .now))) (firstLine (a .rest .now))) (λ p. goLine p (a .n) (lines (c .before .before .before .part-after .result .now)) (c .before .before .before .before .before .before .before .before .before .before .before .before .before .before .before .before .part-before .result .now)) (a .q) _
-    (λ rs. line-go _ (a .n) _ _ fit (ap (λ (l : List ℕ). same (field 0 l) regWord) (sym line) ∙ ap (λ (l : List ℕ). same l regWord) (sym (c .before .before .before .before .before .before .before .before .before .before .before .before .before .field-of .ensures)) ∙ sym (c .before .before .before .before .before .before .before .before .before .before .before .is-same .ensures) ∙ c .before .before .before .before .before .before .before .before .before .before .if2 .left) (ap (λ (l : List ℕ). same (field 0 l) doWord) (sym line) ∙ ap (λ (l : List ℕ). same l doWord) (sym (c .before .before .before .before .before .before .before .before .before .before .before .before .before .field-of .ensures)) ∙ sym (c .before .before .before .before .before .before .before .before .is-same2 .ensures) ∙ c .before .before .before .before .before .before .before .if3 .left) (ap (λ (l : List ℕ). same (field 0 l) goWord) (sym line) ∙ ap (λ (l : List ℕ). same l goWord) (sym (c .before .before .before .before .before .before .before .before .before .before .before .before .before .field-of .ensures)) ∙ sym (c .before .before .before .before .before .is-same3 .ensures) ∙ c .before .before .before .before .if4 .taken) ∙ rw (← line, ← c .before .before .before .part-after .ensures))
-    (c .go-line .ensures)
+    comes-go (a .text .now) (a .q) (a .n) (a .rest .now) (c .before .before .before .before .before .before .before .before .before .before .before .before .before .before .before .before .part-before .result .now) (c .before .before .before .before .before .before .before .before .before .before .before .before .before .before .before .before .part-before .ensures) (c .go-line .result)
+    (sym (c .before .before .before .before .before .before .before .before .before .before .before .before .before .before .before .is-fit .ensures) ∙ not-false _ (c .before .before .before .before .before .before .before .before .before .before .before .before .before .before .if1 .left)) (c .before .before .before .before .before .before .before .before .before .before .before .before .before .field-of .result .now) (c .before .before .before .before .before .before .before .before .before .before .before .before .before .field-of .ensures)
+    (sym (c .before .before .before .before .before .before .before .before .before .before .before .is-same .ensures) ∙ c .before .before .before .before .before .before .before .before .before .before .if2 .left) (sym (c .before .before .before .before .before .before .before .before .is-same2 .ensures) ∙ c .before .before .before .before .before .before .before .if3 .left) (sym (c .before .before .before .before .before .is-same3 .ensures) ∙ c .before .before .before .before .if4 .taken)
+    (c .before .before .before .part-after .result .now) (c .before .before .before .part-after .ensures) (c .go-line .ensures)
 
 slice-aggregate-is-same-4 : tie.Need-slice-aggregate-is-same-4
 slice-aggregate-is-same-4 c = search needs
@@ -124,11 +115,10 @@ at-line-requires c κs =
 returns-5 : tie.Need-returns-5
 returns-5 c =
     let a = c .before .before .before .before .before .before .before .before .before .before .before .before .before .before .before .before .before .before .before .args in
-    let line = c .before .before .before .before .before .before .before .before .before .before .before .before .before .before .before .before .part-before .ensures in
-    let fit = ap (λ (l : List ℕ). isFit (record { bytes = l; ended = ltb (until lineFeed (a .rest .now)) (length (a .rest .now)) })) (sym line) ∙ sym (c .before .before .before .before .before .before .before .before .before .before .before .before .before .before .before .is-fit .ensures) ∙ not-false _ (c .before .before .before .before .before .before .before .before .before .before .before .before .before .before .if1 .left) in
-    takes-as _ (λ p. readLine p (a .n) (lines (after lineFeed (a .rest .now))) (firstLine (a .rest .now))) (λ p. atLine p (c .before .before .before .before .before .before .before .before .before .before .before .before .before .before .before .before .part-before .result .now)) (a .q) _
-    (λ rs. line-at _ (a .n) _ _ fit (ap (λ (l : List ℕ). same (field 0 l) regWord) (sym line) ∙ ap (λ (l : List ℕ). same l regWord) (sym (c .before .before .before .before .before .before .before .before .before .before .before .before .before .field-of .ensures)) ∙ sym (c .before .before .before .before .before .before .before .before .before .before .before .is-same .ensures) ∙ c .before .before .before .before .before .before .before .before .before .before .if2 .left) (ap (λ (l : List ℕ). same (field 0 l) doWord) (sym line) ∙ ap (λ (l : List ℕ). same l doWord) (sym (c .before .before .before .before .before .before .before .before .before .before .before .before .before .field-of .ensures)) ∙ sym (c .before .before .before .before .before .before .before .before .is-same2 .ensures) ∙ c .before .before .before .before .before .before .before .if3 .left) (ap (λ (l : List ℕ). same (field 0 l) goWord) (sym line) ∙ ap (λ (l : List ℕ). same l goWord) (sym (c .before .before .before .before .before .before .before .before .before .before .before .before .before .field-of .ensures)) ∙ sym (c .before .before .before .before .before .is-same3 .ensures) ∙ c .before .before .before .before .if4 .left) (ap (λ (l : List ℕ). same (field 0 l) atWord) (sym line) ∙ ap (λ (l : List ℕ). same l atWord) (sym (c .before .before .before .before .before .before .before .before .before .before .before .before .before .field-of .ensures)) ∙ sym (c .before .before .is-same4 .ensures) ∙ c .before .if5 .taken) ∙ ap (atLine _) (sym line))
-    (takes-plain _ _ (a .q) _ (c .at-line .ensures))
+    comes-at (a .text .now) (a .q) (a .n) (a .rest .now) (c .before .before .before .before .before .before .before .before .before .before .before .before .before .before .before .before .part-before .result .now) (c .before .before .before .before .before .before .before .before .before .before .before .before .before .before .before .before .part-before .ensures) (c .at-line .result)
+    (sym (c .before .before .before .before .before .before .before .before .before .before .before .before .before .before .before .is-fit .ensures) ∙ not-false _ (c .before .before .before .before .before .before .before .before .before .before .before .before .before .before .if1 .left)) (c .before .before .before .before .before .before .before .before .before .before .before .before .before .field-of .result .now) (c .before .before .before .before .before .before .before .before .before .before .before .before .before .field-of .ensures)
+    (sym (c .before .before .before .before .before .before .before .before .before .before .before .is-same .ensures) ∙ c .before .before .before .before .before .before .before .before .before .before .if2 .left) (sym (c .before .before .before .before .before .before .before .before .is-same2 .ensures) ∙ c .before .before .before .before .before .before .before .if3 .left) (sym (c .before .before .before .before .before .is-same3 .ensures) ∙ c .before .before .before .before .if4 .left)
+    (sym (c .before .before .is-same4 .ensures) ∙ c .before .if5 .taken) (takes-plain _ _ (a .q) _ (c .at-line .ensures))
 
 refused-requires-2 : tie.Need-refused-requires-2
 refused-requires-2 c κs = search needs
@@ -136,11 +126,10 @@ refused-requires-2 c κs = search needs
 returns-6 : tie.Need-returns-6
 returns-6 c =
     let a = c .before .before .before .before .before .before .before .before .before .before .before .before .before .before .before .before .before .before .before .args in
-    let line = c .before .before .before .before .before .before .before .before .before .before .before .before .before .before .before .before .part-before .ensures in
-    let fit = ap (λ (l : List ℕ). isFit (record { bytes = l; ended = ltb (until lineFeed (a .rest .now)) (length (a .rest .now)) })) (sym line) ∙ sym (c .before .before .before .before .before .before .before .before .before .before .before .before .before .before .before .is-fit .ensures) ∙ not-false _ (c .before .before .before .before .before .before .before .before .before .before .before .before .before .before .if1 .left) in
-    takes-refused _ (λ p. readLine p (a .n) (lines (after lineFeed (a .rest .now))) (firstLine (a .rest .now))) (a .q) Line _ (c .refused2 .ensures)
-    (λ rs. line-unknown _ (a .n) _ _ fit (ap (λ (l : List ℕ). same (field 0 l) regWord) (sym line) ∙ ap (λ (l : List ℕ). same l regWord) (sym (c .before .before .before .before .before .before .before .before .before .before .before .before .before .field-of .ensures)) ∙ sym (c .before .before .before .before .before .before .before .before .before .before .before .is-same .ensures) ∙ c .before .before .before .before .before .before .before .before .before .before .if2 .left) (ap (λ (l : List ℕ). same (field 0 l) doWord) (sym line) ∙ ap (λ (l : List ℕ). same l doWord) (sym (c .before .before .before .before .before .before .before .before .before .before .before .before .before .field-of .ensures)) ∙ sym (c .before .before .before .before .before .before .before .before .is-same2 .ensures) ∙ c .before .before .before .before .before .before .before .if3 .left) (ap (λ (l : List ℕ). same (field 0 l) goWord) (sym line) ∙ ap (λ (l : List ℕ). same l goWord) (sym (c .before .before .before .before .before .before .before .before .before .before .before .before .before .field-of .ensures)) ∙ sym (c .before .before .before .before .before .is-same3 .ensures) ∙ c .before .before .before .before .if4 .left) (ap (λ (l : List ℕ). same (field 0 l) atWord) (sym line) ∙ ap (λ (l : List ℕ). same l atWord) (sym (c .before .before .before .before .before .before .before .before .before .before .before .before .before .field-of .ensures)) ∙ sym (c .before .before .is-same4 .ensures) ∙ c .before .if5 .left))
-    (c .before .before .before .before .before .before .before .before .before .before .before .before .before .before .before .before .before .before .before .pre .0)
+    comes-unknown (a .text .now) (a .q) (a .n) (a .rest .now) (c .before .before .before .before .before .before .before .before .before .before .before .before .before .before .before .before .part-before .result .now) (c .before .before .before .before .before .before .before .before .before .before .before .before .before .before .before .before .part-before .ensures) (c .refused2 .result)
+    (sym (c .before .before .before .before .before .before .before .before .before .before .before .before .before .before .before .is-fit .ensures) ∙ not-false _ (c .before .before .before .before .before .before .before .before .before .before .before .before .before .before .if1 .left)) (c .before .before .before .before .before .before .before .before .before .before .before .before .before .field-of .result .now) (c .before .before .before .before .before .before .before .before .before .before .before .before .before .field-of .ensures)
+    (sym (c .before .before .before .before .before .before .before .before .before .before .before .is-same .ensures) ∙ c .before .before .before .before .before .before .before .before .before .before .if2 .left) (sym (c .before .before .before .before .before .before .before .before .is-same2 .ensures) ∙ c .before .before .before .before .before .before .before .if3 .left) (sym (c .before .before .before .before .before .is-same3 .ensures) ∙ c .before .before .before .before .if4 .left)
+    (sym (c .before .before .is-same4 .ensures) ∙ c .before .if5 .left) (c .refused2 .ensures) (c .before .before .before .before .before .before .before .before .before .before .before .before .before .before .before .before .before .before .before .pre .0)
 
 pub read-line-spec : {M : Type 1} → statement M
 read-line-spec =

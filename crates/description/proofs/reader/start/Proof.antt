@@ -1,4 +1,4 @@
--- `description::reader::start`: two dictionaries without names.
+-- `reader::start`: two dictionaries without names.
 use borrow.Author.Needs.{needs}
 use Rattle.description.proofs.reader.start.Statement.{statement}
 use Rattle.description.proofs.reader.start.Tie as tie

@@ -1,7 +1,7 @@
--- `description::reader::verdict_of` is the definition, case by case.
+-- `reader::verdict_of` is the definition, case by case.
 use mathlib.Core.Path.{sym, _∙_}
 use borrow.Author.Tests.{eq-eqb, ne-eqb}
-use Rattle.description.proofs.Reading.{label-missing, all-there, no-run}
+use Rattle.description.proofs.Texts.{label-missing, all-there, no-run}
 use borrow.Author.Needs.{needs}
 use Rattle.description.proofs.reader.verdict_of.Statement.{statement}
 use Rattle.description.proofs.reader.verdict_of.Tie as tie

@@ -7,7 +7,7 @@ use Rattle.expression.specs.Tree.{constant}
 use Rattle.expression.specs.Grammar.{ofConstant}
 use Rattle.expression.specs.Code.{codeOf}
 use Rattle.token.proofs.Onward.{constant-past}
-use Rattle.expression.proofs.Parts.{leaf, no-leaf, too-wide}
+use Rattle.expression.proofs.Parts.{no-leaf}
 use borrow.Author.Needs.{needs}
 use Rattle.expression.proofs.code.constant_part.Statement.{statement}
 use Rattle.expression.proofs.code.constant_part.Tie as tie
@@ -18,12 +18,11 @@ constant-at-requires c κs = search needs
 enum-known-value : tie.Need-enum-known-value
 enum-known-value c = search needs
 
-emit-requires : tie.Need-emit-requires
-emit-requires c κs =
-    omega (arith, constant-past (c .before .before .before .before .before .before .before .args .s .now) (c .before .before .before .before .before .before .before .args .c .place) (c .before .before .before .value .given .0 .0) (c .before .before .before .value .given .0 .1 .0) (c .before .before .before .value .given .0 .1 .1 .0) (sym (c .before .before .before .before .before .constant-at .ensures) ∙ c .before .before .before .value .given .1))
-
-one-more-requires : tie.Need-one-more-requires
-one-more-requires c κs = search needs
+leaf-part-requires : tie.Need-leaf-part-requires
+leaf-part-requires c κs =
+    let a = c .before .before .before .before .before .before .args in
+    let o = constant-past (a .s .now) (a .c .place) (c .before .before .value .given .0 .0) (c .before .before .value .given .0 .1 .0) (c .before .before .value .given .0 .1 .1 .0) (sym (c .before .before .before .before .constant-at .ensures) ∙ c .before .before .value .given .1) in
+    omega (arith, c .before .before .before .before .before .before .pre, o)
 
 enum-told : tie.Need-enum-told
 enum-told c = search needs
@@ -31,23 +30,16 @@ enum-told c = search needs
 returns : tie.Need-returns
 unfolding ofConstant codeOf
 returns c =
-    let a = c .before .before .before .before .before .before .before .before .before .args in
-    let e = sym (c .before .before .before .before .before .before .before .constant-at .ensures) ∙ c .before .before .before .before .before .value .given .1 in
-    rw (c .one-more .ensures, c .before .emit .ensures)
-    (leaf (ofConstant (constantAt (a .s .now) (a .c .place))) (a .s .now) (a .c) (a .code .now) (constant (c .before .before .before .before .before .value .given .0 .1 .0) (c .before .before .before .before .before .value .given .0 .0)) (c .before .before .before .before .before .value .given .0 .1 .1 .0) 2 (c .before .before .before .before .before .value .given .0 .0) (c .before .before .before .before .before .value .given .0 .1 .0) 0 (ap ofConstant e) refl refl (c .before .before .before .if1 .taken) (constant-past (a .s .now) (a .c .place) (c .before .before .before .before .before .value .given .0 .0) (c .before .before .before .before .before .value .given .0 .1 .0) (c .before .before .before .before .before .value .given .0 .1 .1 .0) e))
+    let a = c .before .before .before .before .before .before .before .args in
+    let e = sym (c .before .before .before .before .before .constant-at .ensures) ∙ c .before .before .before .value .given .1 in
+    let o = constant-past (a .s .now) (a .c .place) (c .before .before .before .value .given .0 .0) (c .before .before .before .value .given .0 .1 .0) (c .before .before .before .value .given .0 .1 .1 .0) e in
+    c .leaf-part .ensures (ofConstant (constantAt (a .s .now) (a .c .place))) (constant (c .before .before .before .value .given .0 .1 .0) (c .before .before .before .value .given .0 .0)) (a .s .now) (ap ofConstant e) refl refl refl (o .0) (o .1)
 
 returns-2 : tie.Need-returns-2
 unfolding ofConstant
 returns-2 c =
-    let a = c .before .before .before .before .before .before .args in
-    let e = sym (c .before .before .before .before .constant-at .ensures) ∙ c .before .before .value .given .1 in
-    no-leaf (ofConstant (constantAt (a .s .now) (a .c .place))) (a .s .now) (a .c) (a .code .now) (a .c .place + 1) (a .c .words + 1) (a .c .pieces + 1) (a .code .now) (ap ofConstant e ∙ too-wide (constant (c .before .before .value .given .0 .1 .0) (c .before .before .value .given .0 .0)) (c .before .before .value .given .0 .1 .1 .0) (c .if1 .left))
-
-returns-3 : tie.Need-returns-3
-unfolding ofConstant
-returns-3 c =
     let a = c .before .before .before .before .args in
-    no-leaf (ofConstant (constantAt (a .s .now) (a .c .place))) (a .s .now) (a .c) (a .code .now) (a .c .place + 1) (a .c .words + 1) (a .c .pieces + 1) (a .code .now) (ap ofConstant (sym (c .before .before .constant-at .ensures) ∙ c .enum-told .given .1))
+    no-leaf (ofConstant (constantAt (a .s .now) (a .c .place))) (a .s .now) (a .c .place + 1) (a .c .words + 1) (a .c .pieces + 1) (a .c) (a .code .now) (a .code .now) (ap ofConstant (sym (c .before .before .constant-at .ensures) ∙ c .enum-told .given .1))
 
 pub constant-part-spec : {M : Type 1} → statement M
 constant-part-spec =
@@ -55,9 +47,7 @@ constant-part-spec =
     (tie.spec
     constant-at-requires
     enum-known-value
-    emit-requires
-    one-more-requires
+    leaf-part-requires
     enum-told
     returns
-    returns-2
-    returns-3)
+    returns-2)

@@ -210,8 +210,7 @@ abbrev read-level-claims : ℕ → read-level-lts.Claims
 read-level-claims t = (entry-in-reads.Asked, entry-in-reads.Learnt, read-operand-below t, read-operand.Post, read-level-below t, read-level.Post, read-more-below t, read-more.Post)
 
 read-level-entry-in-requires : (t : ℕ) → read-level-lts.Need-entry-in-requires (read-level-claims t) (read-level-at t) read-level.Post
-read-level-entry-in-requires t c κs =
-    search needs
+read-level-entry-in-requires t c κs = tt
 
 read-level-read-operand-requires : (t : ℕ) → read-level-lts.Need-read-operand-requires (read-level-claims t) (read-level-at t) read-level.Post
 read-level-read-operand-requires t c κs =
@@ -291,8 +290,7 @@ read-more-operator-at-requires t c κs =
     search needs
 
 read-more-entry-in-requires : (t : ℕ) → read-more-lts.Need-entry-in-requires (read-more-claims t) (read-more-at t) read-more.Post
-read-more-entry-in-requires t c κs =
-    search needs
+read-more-entry-in-requires t c κs = tt
 
 read-more-returns : (t : ℕ) → read-more-lts.Need-returns (read-more-claims t) (read-more-at t) read-more.Post
 read-more-returns t c =
@@ -364,8 +362,7 @@ abbrev read-negated-claims : ℕ → read-negated-lts.Claims
 read-negated-claims t = (entry-in-reads.Asked, entry-in-reads.Learnt, read-level-below t, read-level.Post, complemented-part-reads.Asked, complemented-part-reads.Learnt)
 
 read-negated-entry-in-requires : (t : ℕ) → read-negated-lts.Need-entry-in-requires (read-negated-claims t) (read-negated-at t) read-negated.Post
-read-negated-entry-in-requires t c κs =
-    search needs
+read-negated-entry-in-requires t c κs = tt
 
 read-negated-add-read-level : (t : ℕ) → read-negated-lts.Need-add-read-level (read-negated-claims t) (read-negated-at t) read-negated.Post
 read-negated-add-read-level t c =
@@ -437,12 +434,10 @@ abbrev read-operand-claims : ℕ → read-operand-lts.Claims
 read-operand-claims t = (skip-spaces-reads.Asked, skip-spaces-reads.Learnt, byte-reads.Asked, byte-reads.Learnt, read-enclosed-below t, read-enclosed.Post, is-letter-reads.Asked, is-letter-reads.Learnt, read-worded-below t, read-worded.Post, constant-part-reads.Asked, constant-part-reads.Learnt)
 
 read-operand-skip-spaces-requires : (t : ℕ) → read-operand-lts.Need-skip-spaces-requires (read-operand-claims t) (read-operand-at t) read-operand.Post
-read-operand-skip-spaces-requires t c κs =
-    search needs
+read-operand-skip-spaces-requires t c κs = tt
 
 read-operand-byte-requires : (t : ℕ) → read-operand-lts.Need-byte-requires (read-operand-claims t) (read-operand-at t) read-operand.Post
-read-operand-byte-requires t c κs =
-    search needs
+read-operand-byte-requires t c κs = tt
 
 read-operand-add-t12 : (t : ℕ) → read-operand-lts.Need-add-t12 (read-operand-claims t) (read-operand-at t) read-operand.Post
 read-operand-add-t12 t c =
@@ -472,8 +467,7 @@ read-operand-returns t c =
     }
 
 read-operand-is-letter-requires : (t : ℕ) → read-operand-lts.Need-is-letter-requires (read-operand-claims t) (read-operand-at t) read-operand.Post
-read-operand-is-letter-requires t c κs =
-    search needs
+read-operand-is-letter-requires t c κs = tt
 
 read-operand-read-worded-requires : (t : ℕ) → read-operand-lts.Need-read-worded-requires (read-operand-claims t) (read-operand-at t) read-operand.Post
 read-operand-read-worded-requires t c κs = (
@@ -534,8 +528,7 @@ read-operation-operator-end-requires t c κs =
     search needs
 
 read-operation-entry-in-requires : (t : ℕ) → read-operation-lts.Need-entry-in-requires (read-operation-claims t) (read-operation-at t) read-operation.Post
-read-operation-entry-in-requires t c κs =
-    search needs
+read-operation-entry-in-requires t c κs = tt
 
 read-operation-rotated-part-requires : (t : ℕ) → read-operation-lts.Need-rotated-part-requires (read-operation-claims t) (read-operation-at t) read-operation.Post
 read-operation-rotated-part-requires t c κs =
@@ -636,24 +629,21 @@ abbrev read-worded-claims : ℕ → read-worded-lts.Claims
 read-worded-claims t = (run-end-reads.Asked, run-end-reads.Learnt, part-reads.Asked, part-reads.Learnt, is-same-reads.Asked, is-same-reads.Learnt, read-negated-below t, read-negated.Post, skip-spaces-reads.Asked, skip-spaces-reads.Learnt, byte-reads.Asked, byte-reads.Learnt, read-enclosed-below t, read-enclosed.Post, reference-part-reads.Asked, reference-part-reads.Learnt)
 
 read-worded-run-end-requires : (t : ℕ) → read-worded-lts.Need-run-end-requires (read-worded-claims t) (read-worded-at t) read-worded.Post
-read-worded-run-end-requires t c κs =
-    search needs
+read-worded-run-end-requires t c κs = tt
 
 read-worded-sub-part : (t : ℕ) → read-worded-lts.Need-sub-part (read-worded-claims t) (read-worded-at t) read-worded.Post
 read-worded-sub-part t c =
     after-start Word (c .before .before .before .args .s .now) (c .before .before .before .args .c .place) (c .run-end .result) (c .run-end .ensures)
 
 read-worded-part-requires : (t : ℕ) → read-worded-lts.Need-part-requires (read-worded-claims t) (read-worded-at t) read-worded.Post
-read-worded-part-requires t c κs =
-    search needs
+read-worded-part-requires t c κs = tt
 
 read-worded-slice-aggregate-is-same : (t : ℕ) → read-worded-lts.Need-slice-aggregate-is-same (read-worded-claims t) (read-worded-at t) read-worded.Post
 read-worded-slice-aggregate-is-same t c =
     search needs
 
 read-worded-is-same-requires : (t : ℕ) → read-worded-lts.Need-is-same-requires (read-worded-claims t) (read-worded-at t) read-worded.Post
-read-worded-is-same-requires t c κs =
-    search needs
+read-worded-is-same-requires t c κs = tt
 
 read-worded-read-negated-requires : (t : ℕ) → read-worded-lts.Need-read-negated-requires (read-worded-claims t) (read-worded-at t) read-worded.Post
 read-worded-read-negated-requires t c κs =
@@ -682,16 +672,13 @@ read-worded-slice-aggregate-is-same-2 t c =
     search needs
 
 read-worded-is-same-requires-2 : (t : ℕ) → read-worded-lts.Need-is-same-requires-2 (read-worded-claims t) (read-worded-at t) read-worded.Post
-read-worded-is-same-requires-2 t c κs =
-    search needs
+read-worded-is-same-requires-2 t c κs = tt
 
 read-worded-skip-spaces-requires : (t : ℕ) → read-worded-lts.Need-skip-spaces-requires (read-worded-claims t) (read-worded-at t) read-worded.Post
-read-worded-skip-spaces-requires t c κs =
-    search needs
+read-worded-skip-spaces-requires t c κs = tt
 
 read-worded-byte-requires : (t : ℕ) → read-worded-lts.Need-byte-requires (read-worded-claims t) (read-worded-at t) read-worded.Post
-read-worded-byte-requires t c κs =
-    search needs
+read-worded-byte-requires t c κs = tt
 
 read-worded-returns-2 : (t : ℕ) → read-worded-lts.Need-returns-2 (read-worded-claims t) (read-worded-at t) read-worded.Post
 read-worded-returns-2 t c =

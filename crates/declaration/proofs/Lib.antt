@@ -1,0 +1,3 @@
+mod Passes
+pub mod Fields
+mod Declarations

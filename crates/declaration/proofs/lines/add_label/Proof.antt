@@ -1,0 +1,57 @@
+-- `lines::add_label`: the dictionary has the label that stands in the text.
+use Rattle.declaration.proofs.Declarations.{one-label, no-label, bad-label}
+use borrow.Author.Needs.{needs}
+use Rattle.declaration.proofs.lines.add_label.Statement.{statement}
+use Rattle.declaration.proofs.lines.add_label.Tie as tie
+
+is-new-label-requires : tie.Need-is-new-label-requires
+is-new-label-requires c κs = search needs
+
+cast-with-name : tie.Need-cast-with-name
+cast-with-name c = search needs
+
+cast-with-name-2 : tie.Need-cast-with-name-2
+cast-with-name-2 c = search needs
+
+with-name-requires : tie.Need-with-name-requires
+with-name-requires c κs = search needs
+
+taken-requires : tie.Need-taken-requires
+taken-requires c κs = search needs
+
+refused-requires : tie.Need-refused-requires
+refused-requires c κs = search needs
+
+refused-requires-2 : tie.Need-refused-requires-2
+refused-requires-2 c κs = search needs
+
+returns : tie.Need-returns
+returns c =
+    let a = c .before .before .before .before .before .before .before .before .before .args in
+    one-label (a .text .now) (a .label .now) (a .q) (c .before .before .before .before .before .before .before .before .before .pre .0) (c .before .with-name .result) (a .start) (c .taken .result)
+    (rw (← c .before .before .before .before .before .is-new-label .ensures) (c .before .before .before .before .if1 .taken)) (c .before .before .if2 .taken) (c .before .with-name .ensures) (c .before .before .before .before .before .before .before .before .before .pre .1 .0) (c .taken .ensures)
+
+returns-2 : tie.Need-returns-2
+returns-2 c =
+    let a = c .before .before .before .before .before .before .before .before .args in
+    no-label (a .text .now) (a .label .now) (a .q) (c .before .before .before .before .before .before .before .before .pre .0) (c .refused .result) (rw (← c .before .before .before .before .is-new-label .ensures) (c .before .before .before .if1 .taken)) (c .before .if2 .left) (c .refused .ensures)
+
+returns-3 : tie.Need-returns-3
+returns-3 c =
+    let a = c .before .before .before .before .before .before .args in
+    bad-label (a .text .now) (a .label .now) (a .q) (c .before .before .before .before .before .before .pre .0) (c .refused2 .result) (rw (← c .before .before .is-new-label .ensures) (c .before .if1 .left)) (c .refused2 .ensures)
+
+pub add-label-spec : {M : Type 1} → statement M
+add-label-spec =
+    tie.close
+    (tie.spec
+    is-new-label-requires
+    cast-with-name
+    cast-with-name-2
+    with-name-requires
+    taken-requires
+    refused-requires
+    refused-requires-2
+    returns
+    returns-2
+    returns-3)

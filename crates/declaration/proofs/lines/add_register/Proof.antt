@@ -1,0 +1,76 @@
+-- `lines::add_register`: the dictionary has the name that stands in the text.
+use mathlib.Core.Path.{ap, _∙_}
+use Rattle.declaration.specs.Lines.{widthOf}
+use Rattle.declaration.proofs.Declarations.{one-register, no-register, bad-register}
+use borrow.Author.Needs.{needs}
+use Rattle.declaration.proofs.lines.add_register.Statement.{statement}
+use Rattle.declaration.proofs.lines.add_register.Tie as tie
+
+decimal-at-requires : tie.Need-decimal-at-requires
+decimal-at-requires c κs = search needs
+
+is-new-name-requires : tie.Need-is-new-name-requires
+is-new-name-requires c κs = search needs
+
+is-width-requires : tie.Need-is-width-requires
+is-width-requires c κs = search needs
+
+cast-with-name : tie.Need-cast-with-name
+cast-with-name c = search needs
+
+cast-with-name-2 : tie.Need-cast-with-name-2
+cast-with-name-2 c = search needs
+
+width-of-requires : tie.Need-width-of-requires
+width-of-requires c κs = search needs
+
+with-name-requires : tie.Need-with-name-requires
+with-name-requires c κs = search needs
+
+taken-requires : tie.Need-taken-requires
+taken-requires c κs = search needs
+
+refused-requires : tie.Need-refused-requires
+refused-requires c κs = search needs
+
+refused-requires-2 : tie.Need-refused-requires-2
+refused-requires-2 c κs = search needs
+
+returns : tie.Need-returns
+returns c =
+    let a = c .before .before .before .before .before .before .before .before .before .before .before .before .before .args in
+    one-register (a .text .now) (a .name .now) (a .width .now) (a .q) (c .before .before .before .before .before .before .before .before .before .before .before .before .before .pre .0) (c .before .with-name .result) (a .start) (c .before .before .width-of .result) (c .taken .result)
+    (rw (← c .before .before .before .before .before .before .before .before .decimal-at .ensures, ← c .before .before .before .before .before .before .before .is-new-name .ensures, ← c .before .before .before .before .before .before .is-width .ensures) (c .before .before .before .before .before .if1 .taken))
+    (c .before .before .before .if2 .taken) (c .before .with-name .ensures) (c .before .before .before .before .before .before .before .before .before .before .before .before .before .pre .1 .0) (c .before .before .width-of .ensures ∙ ap widthOf (c .before .before .before .before .before .before .before .before .decimal-at .ensures)) (c .taken .ensures)
+
+returns-2 : tie.Need-returns-2
+returns-2 c =
+    let a = c .before .before .before .before .before .before .before .before .before .before .before .args in
+    no-register (a .text .now) (a .name .now) (a .width .now) (a .q) (c .before .before .before .before .before .before .before .before .before .before .before .pre .0) (c .refused .result)
+    (rw (← c .before .before .before .before .before .before .decimal-at .ensures, ← c .before .before .before .before .before .is-new-name .ensures, ← c .before .before .before .before .is-width .ensures) (c .before .before .before .if1 .taken))
+    (c .before .if2 .left) (c .refused .ensures)
+
+returns-3 : tie.Need-returns-3
+returns-3 c =
+    let a = c .before .before .before .before .before .before .before .before .before .args in
+    bad-register (a .text .now) (a .name .now) (a .width .now) (a .q) (c .before .before .before .before .before .before .before .before .before .pre .0) (c .refused2 .result)
+    (rw (← c .before .before .before .before .decimal-at .ensures, ← c .before .before .before .is-new-name .ensures, ← c .before .before .is-width .ensures) (c .before .if1 .left))
+    (c .refused2 .ensures)
+
+pub add-register-spec : {M : Type 1} → statement M
+add-register-spec =
+    tie.close
+    (tie.spec
+    decimal-at-requires
+    is-new-name-requires
+    is-width-requires
+    cast-with-name
+    cast-with-name-2
+    width-of-requires
+    with-name-requires
+    taken-requires
+    refused-requires
+    refused-requires-2
+    returns
+    returns-2
+    returns-3)

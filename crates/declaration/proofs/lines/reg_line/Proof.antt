@@ -1,0 +1,60 @@
+-- `lines::reg_line`: the name stands behind `reg` and a TAB.
+use mathlib.Core.Path.{_∙_}
+use mathlib.Core.Bool.{not}
+use native.Mathlib.Omega.{arith}
+use Rattle.text.specs.Fields.{hasFields}
+use Rattle.text.proofs.Tests.{and-left}
+use Rattle.declaration.specs.declared.faults.Fault.the-variants.{Line}
+use Rattle.declaration.specs.Lines.{regWord, regLine, addRegister}
+use Rattle.declaration.proofs.Fields.{stands, fits-in}
+use Rattle.declaration.proofs.Declarations.{plain-as, plain-refused, reg-fields, reg-malformed}
+use borrow.Author.Needs.{needs}
+use Rattle.declaration.proofs.lines.reg_line.Statement.{statement}
+use Rattle.declaration.proofs.lines.reg_line.Tie as tie
+
+has-fields-requires : tie.Need-has-fields-requires
+has-fields-requires c κs = search needs
+
+add-add-register : tie.Need-add-add-register
+add-add-register c = search needs
+
+field-of-requires : tie.Need-field-of-requires
+field-of-requires c κs = search needs
+
+field-of-requires-2 : tie.Need-field-of-requires-2
+field-of-requires-2 c κs = search needs
+
+add-register-requires : tie.Need-add-register-requires
+add-register-requires c κs =
+    let a = c .before .before .before .before .before .before .before .args in
+    let t = rw (c .before .before .before .before .has-fields .ensures) at (c .before .before .if1 .taken) in
+    let fields = and-left (hasFields 3 (a .line .now)) (not (a .q .begun)) t in
+    (c .before .before .before .before .before .before .before .pre .0, (stands (a .text .now) (a .line .now) regWord 3 (a .place) (omega arith) fields (c .before .before .before .before .before .before .before .pre .1 .1 .1) (c .before .before .before .before .before .before .before .pre .1 .0) _ (c .before .field-of .ensures), fits-in (a .text .now) (a .line .now) regWord 3 (a .place) (omega arith) fields (c .before .before .before .before .before .before .before .pre .1 .1 .1) (c .before .before .before .before .before .before .before .pre .1 .0) _ (c .before .field-of .ensures) (c .before .before .before .before .before .before .before .pre .1 .1 .0)))
+
+refused-requires : tie.Need-refused-requires
+refused-requires c κs = search needs
+
+returns : tie.Need-returns
+returns c =
+    let a = c .before .before .before .before .before .before .before .before .args in
+    plain-as (a .text .now) (λ p. regLine p (a .line .now)) (λ p. addRegister p _ _) (a .q) (c .add-register .result)
+    (λ rs. reg-fields _ (a .line .now) (rw (← c .before .before .before .before .before .has-fields .ensures) (c .before .before .before .if1 .taken)) ∙ rw (c .before .before .field-of .ensures, c .before .field-of2 .ensures)) (c .add-register .ensures)
+
+returns-2 : tie.Need-returns-2
+returns-2 c =
+    let a = c .before .before .before .before .before .before .args in
+    plain-refused (a .text .now) (λ p. regLine p (a .line .now)) (a .q) Line (c .refused .result) (c .refused .ensures)
+    (λ rs. reg-malformed _ (a .line .now) (rw (← c .before .before .before .has-fields .ensures) (c .before .if1 .left))) (c .before .before .before .before .before .before .pre .0)
+
+pub reg-line-spec : {M : Type 1} → statement M
+reg-line-spec =
+    tie.close
+    (tie.spec
+    has-fields-requires
+    add-add-register
+    field-of-requires
+    field-of-requires-2
+    add-register-requires
+    refused-requires
+    returns
+    returns-2)

@@ -1,0 +1,90 @@
+-- `targets::passes`: line by line.
+use mathlib.Core.Path.{_≡_, sym, ap, _∙_}
+use mathlib.Core.Logic.{inl, inr}
+use mathlib.Core.List.{List}
+use Prim.Native.Nat.{ℕ, _+_, _≤_, _<_}
+use native.Mathlib.Omega.{arith}
+use lib.ListN.{length, length-drop}
+use Rattle.text.specs.Fields.{lineFeed, until, after, Line, lines}
+use Rattle.declaration.specs.Targets.{isAt, isRow, further, passes}
+use Rattle.declaration.proofs.Passes.{from-none, arrived, past-row, past-other, nowhere}
+use borrow.Author.Needs.{needs}
+use Rattle.declaration.proofs.targets.passes.Statement.{statement}
+use Rattle.declaration.proofs.targets.passes.Tie as tie
+
+-- what follows a line is shorter
+shorter : (s t : List ℕ) → 0 < length s → t ≡ after lineFeed s → length t < length s
+shorter s t h e = omega (arith, ap length e, length-drop (until lineFeed s + 1) s)
+
+abbrev Inv-loop : tie.InvT-loop
+Inv-loop label below rest₀ n₀ rest n =
+    (passes label (lines below) ≡ further n (passes label (lines rest))) × (n + length rest ≤ length below)
+
+abbrev μ-loop : tie.MeasureT-loop
+μ-loop label below rest₀ n₀ rest n =
+    length rest
+
+loop-holds : tie.Need-loop-holds Inv-loop μ-loop
+loop-holds c =
+    (from-none _, omega arith)
+
+part-before-requires : tie.Need-part-before-requires Inv-loop μ-loop
+part-before-requires c κs = search needs
+
+is-at-requires : tie.Need-is-at-requires Inv-loop μ-loop
+is-at-requires c κs = search needs
+
+returns : tie.Need-returns Inv-loop μ-loop
+returns c =
+    let l = c .before .before .before .before .loop in
+    sym (l .inv .0 ∙ arrived (c .before .before .before .before .before .before .before .args .label .now) (l .rest .now) (l .n) (c .before .before .before .loop-test .taken) (ap (isAt (c .before .before .before .before .before .before .before .args .label .now)) (sym (c .before .before .part-before .ensures)) ∙ sym (c .before .is-at .ensures) ∙ c .if1 .taken))
+
+is-row-requires : tie.Need-is-row-requires Inv-loop μ-loop
+is-row-requires c κs = search needs
+
+add-n : tie.Need-add-n Inv-loop μ-loop
+add-n c =
+    omega (arith, c .before .before .before .before .before .before .loop .inv .1, c .before .before .before .before .before .loop-test .taken, c .before .before .before .before .before .before .before .before .before .pre)
+
+part-after-requires : tie.Need-part-after-requires Inv-loop μ-loop
+part-after-requires c κs = search needs
+
+loop-less : tie.Need-loop-less Inv-loop μ-loop
+loop-less c =
+    shorter _ _ (c .before .before .before .before .before .before .loop-test .taken) (c .part-after .ensures)
+
+loop-again : tie.Need-loop-again Inv-loop μ-loop
+loop-again c =
+    let l = c .before .before .before .before .before .before .before .loop in
+    let label = c .before .before .before .before .before .before .before .before .before .before .args .label .now in
+    let h = c .before .before .before .before .before .before .loop-test .taken in
+    let at = ap (isAt label) (sym (c .before .before .before .before .before .part-before .ensures)) ∙ sym (c .before .before .before .before .is-at .ensures) ∙ c .before .before .before .if1 .left in
+    let row = ap isRow (sym (c .before .before .before .before .before .part-before .ensures)) ∙ sym (c .before .before .is-row .ensures) in
+    let rest = ap (λ (s : List ℕ). lines s) (sym (c .part-after .ensures)) in
+    let less = shorter (l .rest .now) _ h (c .part-after .ensures) in
+    elim (c .before .if2 .came) [
+      | inl y ↦ (l .inv .0 ∙ past-row label (l .rest .now) (l .n) h at (row ∙ y .0 .taken) ∙ rw (y .1) (ap (λ (ls : List Line). further (l .n + 1) (passes label ls)) rest), omega (arith, l .inv .1, less, y .1))
+      | inr y ↦ (l .inv .0 ∙ past-other label (l .rest .now) (l .n) h at (row ∙ y .0 .left) ∙ rw (y .1) (ap (λ (ls : List Line). further (l .n) (passes label ls)) rest), omega (arith, l .inv .1, less, y .1))
+    ]
+
+returns-2 : tie.Need-returns-2 Inv-loop μ-loop
+returns-2 c =
+    let l = c .before .loop in
+    sym (l .inv .0 ∙ nowhere (c .before .before .before .before .args .label .now) (l .rest .now) (l .n) (c .loop-test .left))
+
+pub passes-spec : {M : Type 1} → statement M
+passes-spec =
+    tie.close
+    (tie.spec
+    Inv-loop
+    μ-loop
+    loop-holds
+    part-before-requires
+    is-at-requires
+    returns
+    is-row-requires
+    add-n
+    part-after-requires
+    loop-less
+    loop-again
+    returns-2)

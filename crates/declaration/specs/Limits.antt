@@ -1,0 +1,22 @@
+-- The six limits of a description's text, each by its one name.
+-- Assumes nothing.
+use Prim.Native.Nat.{ℕ}
+
+-- "16,384 bytes, 200 bytes, 16 registers, 128 rows, 32 labels, 1,024 pieces pass"
+abbrev pub mostBytes : ℕ
+mostBytes = 16384
+
+abbrev pub longestLine : ℕ
+longestLine = 200
+
+abbrev pub mostRegisters : ℕ
+mostRegisters = 16
+
+abbrev pub mostRows : ℕ
+mostRows = 128
+
+abbrev pub mostLabels : ℕ
+mostLabels = 32
+
+abbrev pub allPieces : ℕ
+allPieces = 1024

@@ -1,0 +1,53 @@
+// Where a `go` leads.
+use text::bytes;
+use text::fields;
+use text::fields::LINE_FEED;
+ghost use mathlib.Core.Path.{_≡_};
+ghost use Prim.Native.Nat.{_≤_};
+ghost use lib.ListN.{length};
+ghost use Rattle.text.specs.Fields.{lines};
+ghost use Rattle.declaration.specs.Limits.{mostBytes};
+ghost use Rattle.declaration.specs.Targets.{isAt, isRow, passes as Targets·passes};
+
+// The rows that a `go` passes over, or that its label isn't lower down.
+pub enum Target {
+    Passes(u16),
+    Missing,
+}
+
+// Whether a line is the `at` line of a label.
+fn is_at(line: &[u8], label: &[u8]) -> bool
+    ensures { λ r. ⌜ r ≡ isAt (now (label .entry)) (now (line .entry)) ⌝ }
+{
+    bytes::is_same(fields::field_of(line, 0), b"at")
+        & bytes::is_same(fields::field_of(line, 1), label)
+}
+
+// Whether a line is a row.
+fn is_row(line: &[u8]) -> bool
+    ensures { λ r. ⌜ r ≡ isRow (now (line .entry)) ⌝ }
+{
+    let first = fields::field_of(line, 0);
+    bytes::is_same(first, b"do") | bytes::is_same(first, b"go")
+}
+
+// The rows down to the line of a label, among the lines of what stands below.
+pub fn passes(label: &[u8], below: &[u8]) -> Target
+    requires { ⌜ length (now below) ≤ mostBytes ⌝ }
+    ensures { λ r. ⌜ r ≡ Targets·passes (now (label .entry)) (lines (now (below .entry))) ⌝ }
+{
+    let mut rest = below;
+    let mut n = 0;
+    while 0 < rest.len() {
+        let line = fields::part_before(rest, LINE_FEED);
+        if is_at(line, label) {
+            return Target::Passes(n);
+        }
+        if is_row(line) {
+            n += 1;
+        }
+        let next = fields::part_after(rest, LINE_FEED);
+        rest = next;
+    }
+    Target::Missing
+}

@@ -1,0 +1,352 @@
+-- The laws of whole texts: line by line, and what is looked for after all lines.
+-- Assumes nothing.
+use mathlib.Core.Path.{_≡_, refl, sym, ap, subst, _∙_}
+use mathlib.Core.Bool.{Bool, true, false, _&&_}
+use mathlib.Core.List.{List, [], _∷_}
+use Prim.Native.Nat.{ℕ, _+_, _-_, _≤_, _<_}
+use native.Mathlib.Omega.{arith}
+use lib.Dec.{eqb, leb, ltb}
+use lib.ListN.{length, getD, take, drop, length-drop, drop-of-length-le}
+use lib.Seq.{drop-drop}
+use borrow.Author.Tests.{ltb-true, leb-true, leb-false}
+use Rattle.text.specs.Bytes.{run, same}
+use Rattle.text.specs.declared.bytes.Class.the-variants.{Other, Printable}
+use Rattle.text.specs.Fields as fields
+use Rattle.text.specs.Fields.{lineFeed, until, before, after, lines, field, firstLine}
+use Rattle.text.specs.Names.{entriesFrom, entries, find}
+use Rattle.text.specs.declared.names.Dictionary.{Dictionary}
+use Rattle.text.proofs.Tests.{by-test, and-left, and-right}
+use Rattle.text.proofs.Runs.{run-le}
+use Rattle.text.proofs.Lines.{before-length, first-line, no-line}
+use Rattle.token.specs.References.{widthIn}
+use Rattle.token.proofs.Tokens.{entries-length, width-is}
+use Rattle.declaration.specs.declared.faults.Fault.{Fault}
+use Rattle.declaration.specs.declared.faults.Fault.the-variants.{Size, Header, Line, Label, Run}
+use Rattle.declaration.specs.declared.lines.Progress as code
+use Rattle.declaration.specs.declared.lines.Status.{Status}
+use Rattle.declaration.specs.declared.lines.Status.the-variants.{Goes, Refused}
+use Rattle.declaration.specs.declared.lines.Step as taken
+use Rattle.declaration.specs.Rows.{Row}
+use Rattle.declaration.specs.Limits.{mostBytes, longestLine}
+use Rattle.declaration.specs.Lines.{regWord, doWord, goWord, atWord, Progress, refused, next, regLine, atLine}
+use Rattle.declaration.specs.Stored.{progressOf, stepBy, Within}
+use Rattle.row.specs.Cells as cells
+use Rattle.row.specs.Lines.{doLine, goLine}
+use Rattle.row.specs.Stored.{Tables, Takes}
+use Rattle.row.proofs.RowLines.{takes-refused, takes-as}
+use Rattle.description.specs.declared.reader.Answer as reader
+use Rattle.description.specs.declared.reader.Verdict.{Verdict}
+use Rattle.description.specs.declared.reader.Verdict.the-variants as verdict
+use Rattle.description.specs.Description.{isFit, readLine, Answer, accepted, turnedDown, header, runName, nothing, hasRun, finished, readLines, readText}
+use Rattle.description.specs.Stored.{Rest, unread, answerBy, Finishes, Answers}
+
+-- a line, by its first word
+module _ (p : Progress) (n : ℕ) (below : List fields.Line) (l : fields.Line) where
+  abbrev word : List ℕ
+  word = field 0 (l .bytes)
+
+  line-unfit : isFit l ≡ false → readLine p n below l ≡ refused Line
+  unfolding readLine
+  line-unfit e = rw (e, readLine)
+
+  line-reg : isFit l ≡ true → same word regWord ≡ true → readLine p n below l ≡ regLine p (l .bytes)
+  unfolding readLine
+  line-reg e a = rw (e, a, readLine)
+
+  line-do : isFit l ≡ true → same word regWord ≡ false → same word doWord ≡ true → readLine p n below l ≡ doLine p (l .bytes)
+  unfolding readLine
+  line-do e a b = rw (e, a, b, readLine)
+
+  line-go : isFit l ≡ true → same word regWord ≡ false → same word doWord ≡ false → same word goWord ≡ true → readLine p n below l ≡ goLine p n below (l .bytes)
+  unfolding readLine
+  line-go e a b c = rw (e, a, b, c, readLine)
+
+  line-at : isFit l ≡ true → same word regWord ≡ false → same word doWord ≡ false → same word goWord ≡ false → same word atWord ≡ true
+      → readLine p n below l ≡ atLine p (l .bytes)
+  unfolding readLine
+  line-at e a b c d = rw (e, a, b, c, d, readLine)
+
+  line-unknown : isFit l ≡ true → same word regWord ≡ false → same word doWord ≡ false → same word goWord ≡ false → same word atWord ≡ false
+      → readLine p n below l ≡ refused Line
+  unfolding readLine
+  line-unknown e a b c d = rw (e, a, b, c, d, readLine)
+
+-- what is left of a text
+pub rest-drop : (text : List ℕ) (k : ℕ) → Rest text (drop k text)
+rest-drop text k =
+    by-test (leb k (length text))
+    (λ t.
+    let h : k ≤ length text = leb-true k (length text) t in
+    record { is = ap (λ (i : ℕ). drop i text) {x = k} {y = length text - length (drop k text)} (omega (arith, length-drop k text, h)); fits = omega (arith, length-drop k text) })
+    (λ t.
+    let h : length text < k = leb-false k (length text) t in
+    let nil : drop k text ≡ [] = drop-of-length-le text {i = k} (omega (arith, h)) in
+    record {
+      is = nil ∙ sym (drop-of-length-le text {i = length text - length (drop k text)} (omega (arith, ap length nil)));
+      fits = omega (arith, length-drop k text);
+    })
+
+pub rest-after : (text rest : List ℕ) → Rest text rest → Rest text (after lineFeed rest)
+rest-after text rest r =
+    subst (λ (l : List ℕ). Rest text l)
+    (sym (ap (drop (until lineFeed rest + 1)) (r .is) ∙ drop-drop (until lineFeed rest + 1) (length text - length rest) text))
+    (rest-drop text (length text - length rest + (until lineFeed rest + 1)))
+
+-- the first line of a rest, in the text
+pub line-stands : (text rest line : List ℕ) → Rest text rest → line ≡ before lineFeed rest → line ≡ take (length line) (drop (length text - length rest) text)
+line-stands text rest line r e =
+    e
+    ∙ ap (take (until lineFeed rest)) (r .is)
+    ∙ ap (λ (k : ℕ). take k (drop (length text - length rest) text)) (sym (ap length e ∙ before-length lineFeed rest))
+
+pub line-fits : (text rest line : List ℕ) → Rest text rest → {most : ℕ} → length text ≤ most → line ≡ before lineFeed rest → length text - length rest + length line ≤ most
+line-fits text rest line r h e = omega (arith, r .fits, h, ap length e ∙ before-length lineFeed rest, run-le (Other lineFeed) rest)
+
+-- the first line of a rest, as the code finds it
+abbrev fit : List ℕ → List ℕ → Bool
+fit rest line = isFit (record { bytes = line; ended = ltb (until lineFeed rest) (length rest) })
+
+-- a fit line is short
+pub fit-length : (rest line : List ℕ) → fit rest line ≡ true → length line ≤ longestLine
+fit-length rest line e =
+    let b = ltb (until lineFeed rest) (length rest) in
+    leb-true (length line) longestLine
+    (and-right b (leb (length line) longestLine) (and-left (b && leb (length line) longestLine) (eqb (run Printable line) (length line)) e))
+
+fit-is : (rest line : List ℕ) (b : Bool) → line ≡ before lineFeed rest → fit rest line ≡ b → isFit (firstLine rest) ≡ b
+fit-is rest line b first e = ap (fit rest) (sym first) ∙ e
+
+word-is : (rest line word w : List ℕ) (b : Bool) → line ≡ before lineFeed rest → word ≡ field 0 line → same word w ≡ b → same (field 0 (before lineFeed rest)) w ≡ b
+word-is rest line word w b first zeroth e =
+    ap (λ (l : List ℕ). same (field 0 l) w) (sym first) ∙ ap (λ (l : List ℕ). same l w) (sym zeroth) ∙ e
+
+-- what it comes to, by its first word
+module _ (text : List ℕ) (q : code.Progress) (n : ℕ) (rest line : List ℕ) (first : line ≡ before lineFeed rest) (r : taken.Step) {code₁ code₂ table₁ table₂ : List ℕ} where
+  pub comes-unfit : fit rest line ≡ false → r ≡ record { progress = q; status = Refused Line } → Within q
+      → Takes text (λ (p : Progress). readLine p n (lines (after lineFeed rest)) (firstLine rest)) q r code₁ code₂ table₁ table₂
+  comes-unfit e is h =
+      takes-refused text (λ (p : Progress). readLine p n (lines (after lineFeed rest)) (firstLine rest)) q Line r is
+      (λ rs. line-unfit (progressOf text q rs) n (lines (after lineFeed rest)) (firstLine rest) (fit-is rest line false first e))
+      h
+
+  module _ (e : fit rest line ≡ true) (word : List ℕ) (zeroth : word ≡ field 0 line) where
+    pub comes-reg : same word regWord ≡ true → Takes text (λ (p : Progress). regLine p line) q r code₁ code₂ table₁ table₂
+        → Takes text (λ (p : Progress). readLine p n (lines (after lineFeed rest)) (firstLine rest)) q r code₁ code₂ table₁ table₂
+    comes-reg a k =
+        takes-as text (λ (p : Progress). readLine p n (lines (after lineFeed rest)) (firstLine rest)) (λ (p : Progress). regLine p line) q r
+        (λ rs.
+        line-reg (progressOf text q rs) n (lines (after lineFeed rest)) (firstLine rest) (fit-is rest line true first e) (word-is rest line word regWord true first zeroth a)
+        ∙ ap (regLine (progressOf text q rs)) (sym first))
+        k
+
+    module _ (a : same word regWord ≡ false) where
+      pub comes-do : same word doWord ≡ true → Takes text (λ (p : Progress). doLine p line) q r code₁ code₂ table₁ table₂
+          → Takes text (λ (p : Progress). readLine p n (lines (after lineFeed rest)) (firstLine rest)) q r code₁ code₂ table₁ table₂
+      comes-do b k =
+          takes-as text (λ (p : Progress). readLine p n (lines (after lineFeed rest)) (firstLine rest)) (λ (p : Progress). doLine p line) q r
+          (λ rs.
+          line-do (progressOf text q rs) n (lines (after lineFeed rest)) (firstLine rest) (fit-is rest line true first e) (word-is rest line word regWord false first zeroth a)
+          (word-is rest line word doWord true first zeroth b)
+          ∙ ap (doLine (progressOf text q rs)) (sym first))
+          k
+
+      module _ (b : same word doWord ≡ false) where
+        pub comes-go : same word goWord ≡ true → (below : List ℕ) → below ≡ after lineFeed rest
+            → Takes text (λ (p : Progress). goLine p n (lines below) line) q r code₁ code₂ table₁ table₂
+            → Takes text (λ (p : Progress). readLine p n (lines (after lineFeed rest)) (firstLine rest)) q r code₁ code₂ table₁ table₂
+        comes-go d below i k =
+            takes-as text (λ (p : Progress). readLine p n (lines (after lineFeed rest)) (firstLine rest)) (λ (p : Progress). goLine p n (lines below) line) q r
+            (λ rs.
+            line-go (progressOf text q rs) n (lines (after lineFeed rest)) (firstLine rest) (fit-is rest line true first e) (word-is rest line word regWord false first zeroth a)
+            (word-is rest line word doWord false first zeroth b) (word-is rest line word goWord true first zeroth d)
+            ∙ ap (goLine (progressOf text q rs) n (lines (after lineFeed rest))) (sym first)
+            ∙ ap (λ (l : List ℕ). goLine (progressOf text q rs) n (lines l) line) (sym i))
+            k
+
+        module _ (d : same word goWord ≡ false) where
+          pub comes-at : same word atWord ≡ true → Takes text (λ (p : Progress). atLine p line) q r code₁ code₂ table₁ table₂
+              → Takes text (λ (p : Progress). readLine p n (lines (after lineFeed rest)) (firstLine rest)) q r code₁ code₂ table₁ table₂
+          comes-at g k =
+              takes-as text (λ (p : Progress). readLine p n (lines (after lineFeed rest)) (firstLine rest)) (λ (p : Progress). atLine p line) q r
+              (λ rs.
+              line-at (progressOf text q rs) n (lines (after lineFeed rest)) (firstLine rest) (fit-is rest line true first e) (word-is rest line word regWord false first zeroth a)
+              (word-is rest line word doWord false first zeroth b) (word-is rest line word goWord false first zeroth d) (word-is rest line word atWord true first zeroth g)
+              ∙ ap (atLine (progressOf text q rs)) (sym first))
+              k
+
+          pub comes-unknown : same word atWord ≡ false → r ≡ record { progress = q; status = Refused Line } → Within q
+              → Takes text (λ (p : Progress). readLine p n (lines (after lineFeed rest)) (firstLine rest)) q r code₁ code₂ table₁ table₂
+          comes-unknown g is h =
+              takes-refused text (λ (p : Progress). readLine p n (lines (after lineFeed rest)) (firstLine rest)) q Line r is
+              (λ rs.
+              line-unknown (progressOf text q rs) n (lines (after lineFeed rest)) (firstLine rest) (fit-is rest line true first e) (word-is rest line word regWord false first zeroth a)
+              (word-is rest line word doWord false first zeroth b) (word-is rest line word goWord false first zeroth d) (word-is rest line word atWord false first zeroth g))
+              h
+
+-- after all lines
+module _ (p : Progress) (n : ℕ) where
+  finished-missing : eqb (p .missing) 0 ≡ false → finished p n ≡ turnedDown Label (p .missing)
+  unfolding finished
+  finished-missing e = rw (e, finished)
+
+  finished-accepted : eqb (p .missing) 0 ≡ true → hasRun (p .registers) ≡ true → finished p n ≡ accepted (record { registers = p .registers; rows = p .rows })
+  unfolding finished
+  finished-accepted e f = rw (e, f, finished)
+
+  finished-without : eqb (p .missing) 0 ≡ true → hasRun (p .registers) ≡ false → finished p n ≡ turnedDown Run n
+  unfolding finished
+  finished-without e f = rw (e, f, finished)
+
+module _ (text : List ℕ) (q : code.Progress) (n : ℕ) where
+  pub label-missing : eqb (q .missing) 0 ≡ false → Finishes text q n (verdict.Refused Label (q .missing))
+  label-missing e rs = finished-missing (progressOf text q rs) n e
+
+  pub all-there : eqb (q .missing) 0 ≡ true → hasRun (entries text (q .registers)) ≡ true → Finishes text q n verdict.Accepted
+  all-there e f rs = finished-accepted (progressOf text q rs) n e f
+
+  pub no-run : eqb (q .missing) 0 ≡ true → hasRun (entries text (q .registers)) ≡ false → Finishes text q n (verdict.Refused Run n)
+  no-run e f rs = finished-without (progressOf text q rs) n e f
+
+-- line by line
+module _ (p : Progress) (n : ℕ) (l : fields.Line) (ls : List fields.Line) where
+  one-line : (q : Progress) → readLine p n ls l ≡ next q → readLines p n (l ∷ ls) ≡ readLines q (n + 1) ls
+  unfolding readLines
+  one-line q e = rw (e, readLines)
+
+  bad-line : (f : Fault) → readLine p n ls l ≡ refused f → readLines p n (l ∷ ls) ≡ turnedDown f n
+  unfolding readLines
+  bad-line f e = rw (e, readLines)
+
+pub no-lines : (p : Progress) (n : ℕ) → readLines p n [] ≡ finished p n
+unfolding readLines
+no-lines p n = refl
+
+-- what the loop over the lines keeps
+pub record Turning (text code₀ table₀ rest : List ℕ) (q : code.Progress) (n : ℕ) (code₁ table₁ : List ℕ) : Type 0 where
+  pub rows : List Row
+  pub is : readLines nothing 2 (lines (after lineFeed text)) ≡ readLines (progressOf text q rows) n (lines rest)
+  pub tables : Tables rows (q .rows) (q .words) code₀ code₁ table₀ table₁
+  pub within : Within q
+  pub left : Rest text rest
+  pub count : n + length rest ≤ length text + 2
+
+none-yet : (text : List ℕ) → progressOf text unread [] ≡ nothing
+unfolding entriesFrom
+none-yet text = refl
+
+no-rows : (code₀ table₀ : List ℕ) → Tables [] 0 0 code₀ code₀ table₀ table₀
+unfolding cells.code cells.cells
+no-rows code₀ table₀ = record { rows-are = refl; words-are = refl; code-is = refl; table-is = refl }
+
+pub turn-start : (text code₀ table₀ rest : List ℕ) (q : code.Progress) → q ≡ unread → rest ≡ after lineFeed text → Turning text code₀ table₀ rest q 2 code₀ table₀
+turn-start text code₀ table₀ rest q e f =
+    subst (λ (x : code.Progress). Turning text code₀ table₀ rest x 2 code₀ table₀) (sym e)
+    (subst (λ (l : List ℕ). Turning text code₀ table₀ l unread 2 code₀ table₀) (sym f)
+    (record {
+      rows = [];
+      is = ap (λ (p : Progress). readLines p 2 (lines (after lineFeed text))) (sym (none-yet text));
+      tables = no-rows code₀ table₀;
+      within = record { few-registers = omega arith; few-labels = omega arith; few-rows = omega arith; few-words = omega arith; few-pieces = omega arith };
+      left = rest-drop text (until lineFeed text + 1);
+      count = omega (arith, length-drop (until lineFeed text + 1) text);
+    }))
+
+module _ (text code₀ table₀ rest : List ℕ) (q : code.Progress) (n : ℕ) (code₁ table₁ : List ℕ) (t : Turning text code₀ table₀ rest q n code₁ table₁) where
+  module _ (r : taken.Step) (code₂ table₂ : List ℕ) (h : 0 < length rest)
+      (k : Takes text (λ (p : Progress). readLine p n (lines (after lineFeed rest)) (firstLine rest)) q r code₁ code₂ table₁ table₂) where
+    abbrev now : Progress
+    now = progressOf text q (t .rows)
+
+    came : (s : Status) → r .status ≡ s
+        → readLine now n (lines (after lineFeed rest)) (firstLine rest) ≡ stepBy s (progressOf text (r .progress) (k .comes (t .rows) code₀ table₀ (t .tables) .rows))
+    came s e =
+        k .comes (t .rows) code₀ table₀ (t .tables) .is
+        ∙ ap (λ (x : Status). stepBy x (progressOf text (r .progress) (k .comes (t .rows) code₀ table₀ (t .tables) .rows))) e
+
+    opened : readLines now n (lines rest) ≡ readLines now n (firstLine rest ∷ lines (after lineFeed rest))
+    opened = ap (readLines now n) (first-line rest h)
+
+    pub turn-next : (rest′ : List ℕ) (q′ : code.Progress) → rest′ ≡ after lineFeed rest → q′ ≡ r .progress → r .status ≡ Goes → Turning text code₀ table₀ rest′ q′ (n + 1) code₂ table₂
+    turn-next rest′ q′ f g e =
+        subst (λ (l : List ℕ). Turning text code₀ table₀ l q′ (n + 1) code₂ table₂) (sym f)
+        (subst (λ (x : code.Progress). Turning text code₀ table₀ (after lineFeed rest) x (n + 1) code₂ table₂) (sym g)
+        (record {
+          rows = k .comes (t .rows) code₀ table₀ (t .tables) .rows;
+          is = t .is ∙ opened ∙ one-line now n (firstLine rest) (lines (after lineFeed rest)) _ (came Goes e);
+          tables = k .comes (t .rows) code₀ table₀ (t .tables) .holds e;
+          within = k .within;
+          left = rest-after text rest (t .left);
+          count = omega (arith, t .count, length-drop (until lineFeed rest + 1) rest, h);
+        }))
+
+    pub turn-refused : (f : Fault) → r .status ≡ Refused f → readLines nothing 2 (lines (after lineFeed text)) ≡ turnedDown f n
+    turn-refused f e = t .is ∙ opened ∙ bad-line now n (firstLine rest) (lines (after lineFeed rest)) f (came (Refused f) e)
+
+  -- past the last line
+  pub turn-last : (a : reader.Answer) (v : Verdict) → length rest ≤ 0 → Finishes text q n v → a ≡ record { registers = q .registers; rows = q .rows; verdict = v }
+      → Answers text (readLines nothing 2 (lines (after lineFeed text))) a code₀ code₁ table₀ table₁
+  turn-last a v h f e =
+      subst (λ (x : reader.Answer). Answers text (readLines nothing 2 (lines (after lineFeed text))) x code₀ code₁ table₀ table₁) (sym e)
+      (record {
+        rows = t .rows;
+        is = t .is ∙ ap (readLines (progressOf text q (t .rows)) n) (no-line rest h) ∙ no-lines (progressOf text q (t .rows)) n ∙ f (t .rows);
+        rows-are = λ k. t .tables .rows-are;
+        code-is = λ k. t .tables .code-is;
+        table-is = λ k. t .tables .table-is;
+      })
+
+abbrev isAccepted : Verdict → Bool
+isAccepted verdict.Accepted = true
+isAccepted (verdict.Refused f n) = false
+
+-- a text that is turned down
+pub answers-refused : (text : List ℕ) (x : Answer) (f : Fault) (n : ℕ) (a : reader.Answer) (code₀ code₁ table₀ table₁ : List ℕ) → a .verdict ≡ verdict.Refused f n → x ≡ turnedDown f n
+    → Answers text x a code₀ code₁ table₀ table₁
+answers-refused text x f n a code₀ code₁ table₀ table₁ e g =
+    record {
+      rows = [];
+      is = g ∙ ap (λ (v : Verdict). answerBy v (record { registers = entries text (a .registers); rows = [] })) (sym e);
+      rows-are = λ k. other k;
+      code-is = λ k. other k;
+      table-is = λ k. other k;
+    }
+  where
+    other : {P : Type 0} → a .verdict ≡ verdict.Accepted → P
+    other k = absurd (mathlib.Core.Bool.false≢true (ap isAccepted (sym e ∙ k)))
+
+pub answers-as : (text : List ℕ) (x y : Answer) (a : reader.Answer) (code₀ code₁ table₀ table₁ : List ℕ) → x ≡ y → Answers text y a code₀ code₁ table₀ table₁ → Answers text x a code₀ code₁ table₀ table₁
+answers-as text x y a code₀ code₁ table₀ table₁ e k = subst (λ (z : Answer). Answers text z a code₀ code₁ table₀ table₁) (sym e) k
+
+-- the header
+module _ (s : List ℕ) where
+  pub too-long : leb (length s) mostBytes ≡ false → readText s ≡ turnedDown Size 0
+  unfolding readText
+  too-long a = rw (a, readText)
+
+  pub no-header : leb (length s) mostBytes ≡ true → same (before lineFeed s) header ≡ false → readText s ≡ turnedDown Header 1
+  unfolding readText
+  no-header a b = rw (a, b, readText)
+
+  pub header-alone : leb (length s) mostBytes ≡ true → same (before lineFeed s) header ≡ true → ltb (until lineFeed s) (length s) ≡ false → readText s ≡ turnedDown Line 1
+  unfolding readText
+  header-alone a b c = rw (a, b, c, readText)
+
+  pub after-header : leb (length s) mostBytes ≡ true → same (before lineFeed s) header ≡ true → ltb (until lineFeed s) (length s) ≡ true
+      → readText s ≡ readLines nothing 2 (lines (after lineFeed s))
+  unfolding readText
+  after-header a b c = rw (a, b, c, readText)
+
+-- "register RUN of width 1", as the code finds it
+pub run-found : (text : List ℕ) (d : Dictionary) (i n : ℕ) → i ≡ find runName (entries text d) → n ≡ getD (d .numbers) i 0
+    → ltb i (d .count) && eqb n 1 ≡ hasRun (entries text d)
+run-found text d i n e f =
+    by-test (ltb i (d .count))
+    (λ t.
+    ap (λ (m : ℕ). ltb i (d .count) && eqb m 1) (f ∙ sym (width-is text d i (ltb-true i (d .count) t)))
+    ∙ ap (λ (m : ℕ). ltb i m && eqb (widthIn (entries text d) i) 1) (sym (entries-length text d))
+    ∙ ap (λ (j : ℕ). ltb j (length (entries text d)) && eqb (widthIn (entries text d) j) 1) e)
+    (λ t. short (ltb i (d .count)) (eqb n 1) t ∙ sym (short (ltb (find runName (entries text d)) (length (entries text d))) (eqb (widthIn (entries text d) (find runName (entries text d))) 1)
+    (ap (λ (j : ℕ). ltb j (length (entries text d))) (sym e) ∙ ap (ltb i) (entries-length text d) ∙ t)))
+  where
+    short : (a b : Bool) → a ≡ false → a && b ≡ false
+    short a b h = rw h

@@ -1,0 +1,171 @@
+-- The laws of a `do` line's parts: destination, value, and the row that they make.
+-- Assumes nothing.
+use mathlib.Core.Path.{_≡_, refl, sym, ap, subst, _∙_}
+use mathlib.Core.Bool.{Bool, true, false}
+use mathlib.Core.List.{List, _++_}
+use Prim.Native.Nat.{ℕ, _+_, _-_, _*_}
+use native.Mathlib.Nat.{add-zero}
+use native.Mathlib.Omega.{arith}
+use lib.ListN.{length, length-append}
+use lib.Seq.{sets}
+use Rattle.text.specs.Fields.{field}
+use Rattle.text.specs.Names.{Named}
+use Rattle.expression.specs.declared.code.Cursor.{Cursor}
+use Rattle.expression.specs.Tree.{Expr, pieces}
+use Rattle.expression.specs.Code.{codeOf}
+use Rattle.expression.specs.Grammar.{Reading, read, outside, Destination, toRegister, toPart, nowhere, expression, destination}
+use Rattle.expression.specs.Met.{Held, Address}
+use Rattle.expression.proofs.Stores.{sets-behind}
+use Rattle.declaration.specs.Rows.{Row, does}
+use Rattle.row.specs.declared.cells.Aim.{Aim}
+use Rattle.row.specs.declared.actions.RowRead.{RowRead}
+use Rattle.row.specs.Lines.{isSomewhere, formed, unformed, doRow}
+use Rattle.row.specs.Cells.{addressCode, rowCode, cellsOf, doCells}
+use Rattle.row.specs.Stored.{Aiming, Aimed, HasRow}
+use Rattle.row.proofs.RowLines.{ReadAs}
+
+pub not-so : (b : Bool) {P : Type 0} → b ≡ true → b ≡ false → P
+not-so b e f = absurd (mathlib.Core.Bool.false≢true (sym f ∙ e))
+
+-- a register or a bit part needs no words
+module _ (x : Destination) (s : List ℕ) (from : Cursor) (now after : List ℕ) where
+  pub aim-register : (r w : ℕ) → x ≡ toRegister r w → after ≡ now
+      → Aimed x s (record { kind = 0; register = r; right = 0; size = w; end = from; found = true }) from now after
+  aim-register r w e f =
+      subst (λ (d : Destination). Aimed d s (record { kind = 0; register = r; right = 0; size = w; end = from; found = true }) from now after) (sym e)
+      (record {
+        aims = λ k.
+            record {
+              somewhere = refl;
+              kind-is = refl;
+              register-is = refl;
+              right-is = refl;
+              size-is = refl;
+              pieces-are = sym (add-zero (from .pieces));
+              words-are = sym (add-zero (4 * from .words));
+              code-is = f;
+              words-few = omega arith;
+              pieces-few = omega arith;
+            };
+        misses = λ k. not-so true refl k;
+      })
+
+  pub aim-part : (r w a b : ℕ) → x ≡ toPart r w a b → after ≡ now
+      → Aimed x s (record { kind = 1; register = r; right = w - 1 - b; size = b - a + 1; end = from; found = true }) from now after
+  aim-part r w a b e f =
+      subst (λ (d : Destination). Aimed d s (record { kind = 1; register = r; right = w - 1 - b; size = b - a + 1; end = from; found = true }) from now after) (sym e)
+      (record {
+        aims = λ k.
+            record {
+              somewhere = refl;
+              kind-is = refl;
+              register-is = refl;
+              right-is = refl;
+              size-is = refl;
+              pieces-are = sym (add-zero (from .pieces));
+              words-are = sym (add-zero (4 * from .words));
+              code-is = f;
+              words-few = omega arith;
+              pieces-few = omega arith;
+            };
+        misses = λ k. not-so true refl k;
+      })
+
+  pub aim-memory : (end : Cursor) → Address x s end (record { place = 0; words = from .words; pieces = from .pieces }) now after
+      → Aimed x s (record { kind = 2; register = 0; right = 0; size = 0; end = end; found = true }) from now after
+  aim-memory end a =
+      subst (λ (d : Destination). Aimed d s (record { kind = 2; register = 0; right = 0; size = 0; end = end; found = true }) from now after) (sym (a .is))
+      (record {
+        aims = λ k.
+            record {
+              somewhere = refl;
+              kind-is = refl;
+              register-is = refl;
+              right-is = refl;
+              size-is = refl;
+              pieces-are = a .pieces-are;
+              words-are = a .words-are;
+              code-is = a .code-is;
+              words-few = a .words-few;
+              pieces-few = a .pieces-few;
+            };
+        misses = λ k. not-so true refl k;
+      })
+
+  pub aim-nowhere : x ≡ nowhere → Aimed x s (record { kind = 0; register = 0; right = 0; size = 0; end = from; found = false }) from now after
+  aim-nowhere e =
+      subst (λ (d : Destination). Aimed d s (record { kind = 0; register = 0; right = 0; size = 0; end = from; found = false }) from now after) (sym e)
+      (record { aims = λ k. not-so false k refl; misses = λ k. refl })
+
+-- the row of a `do` line
+module _ (c e : Expr) (x y : ℕ) (d : Destination) where
+  row-formed : isSomewhere d ≡ true → doRow (read c x) d (read e y) ≡ formed (does c d e)
+  unfolding doRow
+  row-formed t = rw (t, doRow)
+
+  row-lost : isSomewhere d ≡ false → doRow (read c x) d (read e y) ≡ unformed
+  unfolding doRow
+  row-lost t = rw (t, doRow)
+
+pub no-value : (c : Expr) (x : ℕ) (d : Destination) (v : Reading) → v ≡ outside → doRow (read c x) d v ≡ unformed
+unfolding doRow
+no-value c x d v e = rw e
+
+pub no-destination : (c : Expr) (x : ℕ) (d : Destination) (v : Reading) → isSomewhere d ≡ false → doRow (read c x) d v ≡ unformed
+unfolding doRow
+no-destination c x d (read e y) t = row-lost c e x y d t
+no-destination c x d outside t = refl
+
+pub no-condition : (d : Destination) (v w : Reading) → w ≡ outside → doRow w d v ≡ unformed
+unfolding doRow
+no-condition d v w e = rw e
+
+-- condition, address and value, one behind the other
+module _ (c : Expr) (x w : ℕ) (from condition : Cursor) (before now : List ℕ) (h : Held c x condition w from before now)
+    (d : Destination) (s : List ℕ) (aim : Aim) (mid : List ℕ) (a : Aiming d s aim condition now mid)
+    (v : Reading) (end : Cursor) (u : ℕ) (after : List ℕ) (at : ℕ) (k : ReadAs v end u (record { place = at; words = aim .end .words; pieces = aim .end .pieces }) mid after) where
+  abbrev row : Row
+  row = does c d (k .tree)
+
+  words : 4 * end .words ≡ 4 * from .words + length (rowCode row)
+  words =
+      omega (arith, h .words-are, a .words-are, k .held .words-are, length-append (codeOf c) (addressCode d ++ codeOf (k .tree)), length-append (addressCode d) (codeOf (k .tree)))
+
+  stored : after ≡ sets before (4 * from .words) (rowCode row)
+  stored =
+      k .held .code-is
+      ∙ ap (λ (l : List ℕ). sets l (4 * aim .end .words) (codeOf (k .tree))) (a .code-is)
+      ∙ sets-behind now (4 * condition .words) (4 * aim .end .words) (addressCode d) (codeOf (k .tree)) (a .words-are)
+      ∙ ap (λ (l : List ℕ). sets l (4 * condition .words) (addressCode d ++ codeOf (k .tree))) (h .code-is)
+      ∙ sets-behind before (4 * from .words) (4 * condition .words) (codeOf c) (addressCode d ++ codeOf (k .tree)) (h .words-are)
+
+  cells : doCells (from .words) (condition .words) aim (end .words) ≡ cellsOf (4 * from .words) row
+  cells = rw (k .held .words-are, a .words-are, h .words-are, a .kind-is, a .register-is, a .right-is, a .size-is)
+
+  pub row-forms : (start : ℕ) (r : RowRead) → from .words ≡ start → r .cells ≡ doCells start (condition .words) aim (end .words) → r .end ≡ end
+      → HasRow (doRow (read c x) d v) r from before after
+  row-forms start r f g i =
+      record {
+        row = row;
+        is = ap (doRow (read c x) d) (k .is) ∙ row-formed c (k .tree) x (k .place) d (a .somewhere);
+        forms = record {
+          cells-are = g ∙ ap (λ (n : ℕ). doCells n (condition .words) aim (end .words)) (sym f) ∙ cells;
+          pieces-are = omega (arith, ap (λ (z : Cursor). z .pieces) i, h .pieces-are, a .pieces-are, k .held .pieces-are);
+          words-are = ap (λ (z : Cursor). 4 * z .words) i ∙ words;
+          code-is = stored;
+        };
+      }
+
+-- fields that the code holds
+module _ (rs : List Named) (s : List ℕ) (r : RowRead) (from : Cursor) (before after : List ℕ) where
+  pub with-fields : (c : Expr) (x : ℕ) (f g : List ℕ) → f ≡ field 2 s → g ≡ field 3 s → HasRow (doRow (read c x) (destination rs f) (expression rs g)) r from before after
+      → HasRow (doRow (read c x) (destination rs (field 2 s)) (expression rs (field 3 s))) r from before after
+  with-fields c x f g e i h = rw (← e, ← i) h
+
+  pub with-condition : (c : Expr) (x : ℕ) (f : List ℕ) (d : Destination) (v : Reading) → f ≡ field 1 s → expression rs f ≡ read c x → HasRow (doRow (read c x) d v) r from before after
+      → HasRow (doRow (expression rs (field 1 s)) d v) r from before after
+  with-condition c x f d v e i h = rw (← e, i) h
+
+  pub without-row : (c : Expr) (x : ℕ) (f : List ℕ) (d : Destination) (v : Reading) → f ≡ field 1 s → expression rs f ≡ read c x → doRow (read c x) d v ≡ unformed
+      → doRow (expression rs (field 1 s)) d v ≡ unformed
+  without-row c x f d v e i h = rw (← e, i) h

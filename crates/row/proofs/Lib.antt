@@ -1,0 +1,3 @@
+mod Tables
+pub mod RowLines
+mod Assignments

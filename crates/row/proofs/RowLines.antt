@@ -1,0 +1,281 @@
+-- The laws of rows: what a `do` or a `go` line comes to.
+-- Assumes nothing.
+use mathlib.Core.Path.{_≡_, refl, sym, ap, subst, _∙_}
+use mathlib.Core.Bool.{Bool, true, false, _&&_}
+use mathlib.Core.List.{List, [], _∷_, _++_}
+use Prim.Native.Nat.{ℕ, _+_, _*_}
+use native.Mathlib.Omega.{arith}
+use lib.Dec.{ltb, leb}
+use lib.ListN.{length}
+use lib.Seq.{sets}
+use borrow.Author.Tests.{ltb-true, leb-true}
+use Rattle.word.specs.Choice.{pick}
+use Rattle.text.specs.Fields.{field, hasFields, lines}
+use Rattle.text.specs.Names.{entries, isName}
+use Rattle.text.proofs.Tests.{by-test, and-left, and-right}
+use Rattle.expression.specs.declared.code.Cursor.{Cursor}
+use Rattle.expression.specs.declared.code.Part.the-variants.{Found}
+use Rattle.expression.specs.Tree.{Expr, pieces}
+use Rattle.expression.specs.Grammar.{Reading, read, outside, expression, destination}
+use Rattle.expression.specs.Met.{Held, Meets}
+use Rattle.declaration.specs.declared.faults.Fault.{Fault}
+use Rattle.declaration.specs.declared.faults.Fault.the-variants.{Line, Expression, Label, Limit}
+use Rattle.declaration.specs.declared.lines.Progress as code
+use Rattle.declaration.specs.declared.lines.Status.{Status}
+use Rattle.declaration.specs.declared.lines.Status.the-variants.{Goes, Refused}
+use Rattle.declaration.specs.declared.lines.Step as taken
+use Rattle.declaration.specs.declared.targets.Target.{Target}
+use Rattle.declaration.specs.Rows.{Row, goes, rowPieces}
+use Rattle.declaration.specs.Limits.{mostRows, allPieces}
+use Rattle.declaration.specs.Lines.{Progress, Step, refused, next}
+use Rattle.declaration.specs.Targets.{passes}
+use Rattle.declaration.specs.Stored.{progressOf, Within, Plain}
+use Rattle.row.specs.Lines.{addRow, RowReading, formed, unformed, doRow, withRow, doLine, rowsPassed, missingAt, goRow, goLine}
+use Rattle.row.specs.Cells.{rowCells, goCells}
+use Rattle.row.specs.Stored.{Tables, Comes, Takes, hasRoom, oneMore, Put, Forming}
+use Rattle.row.proofs.Tables.{tables-more, row-code-pieces}
+
+abbrev isGoes : Status → Bool
+isGoes Goes = true
+isGoes (Refused f) = false
+
+not-goes : (f : Fault) {P : Type 0} → Refused f ≡ Goes → P
+not-goes f e = absurd (mathlib.Core.Bool.false≢true (ap isGoes e))
+
+-- a refused line leaves nothing to say of the tables
+pub takes-refused : (text : List ℕ) (g : Progress → Step) (q : code.Progress) (f : Fault) (r : taken.Step) {code₁ code₂ table₁ table₂ : List ℕ}
+    → r ≡ record { progress = q; status = Refused f } → ((rs : List Row) → g (progressOf text q rs) ≡ refused f) → Within q → Takes text g q r code₁ code₂ table₁ table₂
+takes-refused text g q f r {code₁} {code₂} {table₁} {table₂} e is h =
+    subst (λ (x : taken.Step). Takes text g q x code₁ code₂ table₁ table₂) (sym e)
+    (record { comes = λ rs code₀ table₀ t. record { rows = rs; is = is rs; holds = λ k. not-goes f k }; within = h })
+
+-- a line whose definition says the same
+pub takes-as : (text : List ℕ) (f g : Progress → Step) (q : code.Progress) (r : taken.Step) {code₁ code₂ table₁ table₂ : List ℕ}
+    → ((rs : List Row) → f (progressOf text q rs) ≡ g (progressOf text q rs)) → Takes text g q r code₁ code₂ table₁ table₂ → Takes text f q r code₁ code₂ table₁ table₂
+takes-as text f g q r {code₁} {code₂} {table₁} {table₂} e p =
+    record {
+      comes = λ rs code₀ table₀ t.
+          let k = p .comes rs code₀ table₀ t in
+          record { rows = k .rows; is = e rs ∙ k .is; holds = k .holds };
+      within = p .within;
+    }
+
+-- a line that adds no row leaves the tables
+pub takes-plain : (text : List ℕ) (g : Progress → Step) (q : code.Progress) (r : taken.Step) {code₁ table₁ : List ℕ} → Plain text g q r → Takes text g q r code₁ code₁ table₁ table₁
+takes-plain text g q r {code₁} {table₁} p =
+    record {
+      comes = λ rs code₀ table₀ t.
+          record {
+            rows = rs;
+            is = p .is rs;
+            holds = λ k.
+                record {
+                  rows-are = p .same-rows ∙ t .rows-are;
+                  words-are = ap (λ (n : ℕ). 4 * n) (p .same-words) ∙ t .words-are;
+                  code-is = t .code-is;
+                  table-is = t .table-is;
+                };
+          };
+      within = p .within;
+    }
+
+module _ (p : Progress) (row : Row) (gone : ℕ) where
+  abbrev fits : Bool
+  fits = ltb (length (p .rows)) mostRows && leb (p .pieces + rowPieces row) allPieces
+
+  row-added : fits ≡ true
+      → addRow p row gone
+      ≡ next (record { registers = p .registers; labels = p .labels; rows = p .rows ++ (row ∷ []); pieces = p .pieces + rowPieces row; begun = true; missing = gone })
+  unfolding addRow
+  row-added t = rw (t, addRow)
+
+  row-full : fits ≡ false → addRow p row gone ≡ refused Limit
+  unfolding addRow
+  row-full t = rw (t, addRow)
+
+picked : {A : Type 0} (b : Bool) (x y : A) → b ≡ true → pick b x y ≡ x
+picked b x y e = rw e
+
+passed-over : {A : Type 0} (b : Bool) (x y : A) → b ≡ false → pick b x y ≡ y
+passed-over b x y e = rw e
+
+-- where a line starts counting
+abbrev pub before : code.Progress → Cursor
+before q = record { place = 0; words = q .words; pieces = q .pieces }
+
+-- a row that was read and put into the table, if there is room
+module _ (text : List ℕ) (q : code.Progress) (h : Within q) (row : Row) (cs : List ℕ) (end : Cursor) (gone : ℕ) (r : taken.Step) {code₁ code₂ table₁ table₂ : List ℕ}
+    (forms : Forming row cs end (before q) code₁ code₂) (put : Put q cs end gone r table₁ table₂) where
+  abbrev room : Bool
+  room = hasRoom q end
+
+  abbrev more : taken.Step
+  more = record { progress = oneMore q end gone; status = Goes }
+
+  abbrev full : taken.Step
+  full = record { progress = q; status = Refused Limit }
+
+  row-room : (rs : List Row) {code₀ table₀ : List ℕ} → Tables rs (q .rows) (q .words) code₀ code₁ table₀ table₁ → fits (progressOf text q rs) row gone ≡ room
+  row-room rs t =
+      ap (λ (n : ℕ). ltb n mostRows && leb (q .pieces + rowPieces row) allPieces) (sym (t .rows-are))
+      ∙ ap (λ (n : ℕ). ltb (q .rows) mostRows && leb n allPieces) (sym (forms .pieces-are))
+
+  added : room ≡ true → (rs : List Row) (code₀ table₀ : List ℕ) → Tables rs (q .rows) (q .words) code₀ code₁ table₀ table₁
+      → Comes text (addRow (progressOf text q rs) row gone) more code₀ code₂ table₀ table₂
+  added u rs code₀ table₀ t =
+      record {
+        rows = rs ++ (row ∷ []);
+        is =
+            row-added (progressOf text q rs) row gone (row-room rs t ∙ u)
+            ∙ ap
+            (λ (n : ℕ).
+            next (record { registers = entries text (q .registers); labels = entries text (q .labels); rows = rs ++ (row ∷ []); pieces = n; begun = true; missing = gone }))
+            (sym (forms .pieces-are));
+        holds = λ k.
+            tables-more rs row t (forms .code-is) (forms .words-are)
+            (put .table-is
+            ∙ picked (hasRoom q end) (sets table₁ (rowCells * q .rows) cs) table₁ u
+            ∙ ap (sets table₁ (rowCells * q .rows)) (forms .cells-are));
+      }
+
+  within-more : room ≡ true → Within (oneMore q end gone)
+  within-more u =
+      let l = ltb-true (q .rows) mostRows (and-left (ltb (q .rows) mostRows) (leb (end .pieces) allPieces) u) in
+      record {
+        few-registers = h .few-registers;
+        few-labels = h .few-labels;
+        few-rows = omega (arith, l);
+        few-words = omega (arith, h .few-words, forms .pieces-are, forms .words-are, row-code-pieces row);
+        few-pieces = leb-true (end .pieces) allPieces (and-right (ltb (q .rows) mostRows) (leb (end .pieces) allPieces) u);
+      }
+
+  pub takes-row : Takes text (λ (p : Progress). addRow p row gone) q r code₁ code₂ table₁ table₂
+  takes-row =
+      by-test room
+      (λ u.
+      subst (λ (x : taken.Step). Takes text (λ (p : Progress). addRow p row gone) q x code₁ code₂ table₁ table₂) (sym (put .is ∙ picked room more full u))
+      (record { comes = λ rs code₀ table₀ t. added u rs code₀ table₀ t; within = within-more u }))
+      (λ u.
+      subst (λ (x : taken.Step). Takes text (λ (p : Progress). addRow p row gone) q x code₁ code₂ table₁ table₂) (sym (put .is ∙ passed-over room more full u))
+      (record {
+        comes = λ rs code₀ table₀ t.
+            record { rows = rs; is = row-full (progressOf text q rs) row gone (row-room rs t ∙ u); holds = λ k. not-goes Limit k };
+        within = h;
+      }))
+
+-- an expression that was read
+pub record ReadAs (x : Reading) (end : Cursor) (w : ℕ) (from : Cursor) (now after : List ℕ) : Type 0 where
+  pub tree : Expr
+  pub place : ℕ
+  pub is : x ≡ read tree place
+  pub held : Held tree place end w from now after
+
+pub read-as : (x : Reading) (end : Cursor) (w : ℕ) (from : Cursor) (now after : List ℕ) → Meets x (Found end w) from now after → ReadAs x end w from now after
+read-as (read t p) end w from now after m = record { tree = t; place = p; is = refl; held = m }
+read-as outside end w from now after m = absurd m
+
+-- `go` lines
+module _ (p : Progress) (n : ℕ) (s below : List ℕ) where
+  abbrev target : Target
+  target = passes (field 2 s) (lines below)
+
+  abbrev condition : Reading
+  condition = expression (p .registers) (field 1 s)
+
+  go-fields : hasFields 3 s ≡ true → goLine p n (lines below) s ≡ goRow p n (field 2 s) target condition
+  unfolding goLine
+  go-fields t = rw (t, goLine)
+
+  pub go-malformed : hasFields 3 s ≡ false → goLine p n (lines below) s ≡ refused Line
+  unfolding goLine
+  go-malformed t = rw (t, goLine)
+
+  go-by : (l : List ℕ) (t : Target) (c : Expr) (x : ℕ) → isName l ≡ true → goRow p n l t (read c x) ≡ addRow p (goes c (rowsPassed t)) (missingAt t n (p .missing))
+  unfolding goRow
+  go-by l t c x u = rw (u, goRow)
+
+  go-nameless : (l : List ℕ) (t : Target) (c : Expr) (x : ℕ) → isName l ≡ false → goRow p n l t (read c x) ≡ refused Label
+  unfolding goRow
+  go-nameless l t c x u = rw (u, goRow)
+
+  go-faulty : (l : List ℕ) (t : Target) → goRow p n l t outside ≡ refused Expression
+  unfolding goRow
+  go-faulty l t = refl
+
+  go-taken : (c : Expr) (x : ℕ) → hasFields 3 s ≡ true → condition ≡ read c x → isName (field 2 s) ≡ true
+      → goLine p n (lines below) s ≡ addRow p (goes c (rowsPassed target)) (missingAt target n (p .missing))
+  go-taken c x t e u = go-fields t ∙ ap (goRow p n (field 2 s) target) e ∙ go-by (field 2 s) target c x u
+
+  go-unnamed : (c : Expr) (x : ℕ) → hasFields 3 s ≡ true → condition ≡ read c x → isName (field 2 s) ≡ false → goLine p n (lines below) s ≡ refused Label
+  go-unnamed c x t e u = go-fields t ∙ ap (goRow p n (field 2 s) target) e ∙ go-nameless (field 2 s) target c x u
+
+  pub go-unread : hasFields 3 s ≡ true → condition ≡ outside → goLine p n (lines below) s ≡ refused Expression
+  go-unread t e = go-fields t ∙ ap (goRow p n (field 2 s) target) e ∙ go-faulty (field 2 s) target
+
+-- the cells of a `go` are those of its row
+go-forms : (q : code.Progress) (c : Expr) (x : ℕ) (end : Cursor) (w passed : ℕ) (cs now after : List ℕ) → Held c x end w (before q) now after → cs ≡ goCells (q .words) (end .words) passed
+    → Forming (goes c passed) cs end (before q) now after
+go-forms q c x end w passed cs now after h e =
+    record {
+      cells-are = e ∙ ap (λ (k : ℕ). 3 ∷ 4 * q .words ∷ k ∷ k ∷ k ∷ 0 ∷ 0 ∷ 0 ∷ passed ∷ []) (h .words-are);
+      pieces-are = h .pieces-are;
+      words-are = h .words-are;
+      code-is = h .code-is;
+    }
+
+-- a `go` line whose condition was read
+module _ (text : List ℕ) (q : code.Progress) (h : Within q) (n : ℕ) (line below f : List ℕ) (fields : hasFields 3 line ≡ true) (first : f ≡ field 1 line)
+    (end : Cursor) (w : ℕ) (code₁ code₂ : List ℕ) (m : Meets (expression (entries text (q .registers)) f) (Found end w) (before q) code₁ code₂) where
+  abbrev k : ReadAs (expression (entries text (q .registers)) f) end w (before q) code₁ code₂
+  k = read-as (expression (entries text (q .registers)) f) end w (before q) code₁ code₂ m
+
+  condition-is : expression (entries text (q .registers)) (field 1 line) ≡ read (k .tree) (k .place)
+  condition-is = ap (expression (entries text (q .registers))) (sym first) ∙ k .is
+
+  module _ (label : List ℕ) (second : label ≡ field 2 line) (r : taken.Step) {table₁ table₂ : List ℕ} where
+    pub go-added : isName label ≡ true → (t : Target) → t ≡ passes label (lines below) → (passed gone : ℕ) → passed ≡ rowsPassed t → gone ≡ missingAt t n (q .missing)
+        → (cs : List ℕ) → cs ≡ goCells (q .words) (end .words) passed → Put q cs end gone r table₁ table₂
+        → Takes text (λ (p : Progress). goLine p n (lines below) line) q r code₁ code₂ table₁ table₂
+    go-added named t there passed gone i j cs e put =
+        takes-as text (λ (p : Progress). goLine p n (lines below) line) (λ (p : Progress). addRow p (goes (k .tree) passed) gone) q r
+        (λ rs.
+        go-taken (progressOf text q rs) n line below (k .tree) (k .place) fields condition-is (ap isName (sym second) ∙ named)
+        ∙ ap (λ (z : Target). addRow (progressOf text q rs) (goes (k .tree) (rowsPassed z)) (missingAt z n (q .missing)))
+        (sym (there ∙ ap (λ (l : List ℕ). passes l (lines below)) second))
+        ∙ ap (λ (z : ℕ). addRow (progressOf text q rs) (goes (k .tree) z) (missingAt t n (q .missing))) (sym i)
+        ∙ ap (addRow (progressOf text q rs) (goes (k .tree) passed)) (sym j))
+        (takes-row text q h (goes (k .tree) passed) cs end gone r (go-forms q (k .tree) (k .place) end w passed cs code₁ code₂ (k .held) e) put)
+
+    pub go-refused : isName label ≡ false → r ≡ record { progress = q; status = Refused Label }
+        → Takes text (λ (p : Progress). goLine p n (lines below) line) q r code₁ code₂ table₁ table₂
+    go-refused named e =
+        takes-refused text (λ (p : Progress). goLine p n (lines below) line) q Label r e
+        (λ rs. go-unnamed (progressOf text q rs) n line below (k .tree) (k .place) fields condition-is (ap isName (sym second) ∙ named))
+        h
+
+-- `do` lines
+module _ (p : Progress) (s : List ℕ) where
+  abbrev reading : RowReading
+  reading = doRow (expression (p .registers) (field 1 s)) (destination (p .registers) (field 2 s)) (expression (p .registers) (field 3 s))
+
+  do-fields : hasFields 4 s ≡ true → doLine p s ≡ withRow p reading
+  unfolding doLine
+  do-fields t = rw (t, doLine)
+
+  pub do-malformed : hasFields 4 s ≡ false → doLine p s ≡ refused Line
+  unfolding doLine
+  do-malformed t = rw (t, doLine)
+
+  with-formed : (row : Row) → withRow p (formed row) ≡ addRow p row (p .missing)
+  unfolding withRow
+  with-formed row = refl
+
+  with-unformed : withRow p unformed ≡ refused Expression
+  unfolding withRow
+  with-unformed = refl
+
+  pub do-taken : (row : Row) → hasFields 4 s ≡ true → reading ≡ formed row → doLine p s ≡ addRow p row (p .missing)
+  do-taken row t e = do-fields t ∙ ap (withRow p) e ∙ with-formed row
+
+  pub do-unread : hasFields 4 s ≡ true → reading ≡ unformed → doLine p s ≡ refused Expression
+  do-unread t e = do-fields t ∙ ap (withRow p) e ∙ with-unformed

@@ -1,0 +1,109 @@
+-- `actions::read_action`: destination and value, one behind the other.
+use mathlib.Core.Path.{refl, sym, ap, _∙_}
+use mathlib.Core.Bool.{true}
+use mathlib.Core.List.{List}
+use Prim.Native.Nat.{ℕ}
+use native.Mathlib.Omega.{arith}
+use Rattle.text.specs.Names.{entries}
+use Rattle.expression.specs.Grammar.{expression, destination}
+use Rattle.expression.proofs.Calls.{faulty}
+use Rattle.declaration.proofs.Fields.{field-2-le, fields-2-3-le}
+use Rattle.row.specs.declared.actions.RowRead.{RowRead}
+use Rattle.row.specs.Lines.{isSomewhere}
+use Rattle.row.proofs.RowLines.{read-as}
+use Rattle.row.proofs.Assignments.{not-so, row-forms, with-fields, no-value, no-destination}
+use borrow.Author.Needs.{needs}
+use Rattle.row.proofs.actions.read_action.Statement.{statement}
+use Rattle.row.proofs.actions.read_action.Tie as tie
+
+field-of-requires : tie.Need-field-of-requires
+field-of-requires c κs = search needs
+
+read-aim-requires : tie.Need-read-aim-requires
+read-aim-requires c κs =
+    let p = c .before .before .before .before .pre in
+    let f = field-2-le (c .before .before .before .before .args .line .now) _ (c .before .field-of .ensures) in
+    (p .0, (omega (arith, p .1 .1 .0, f), omega (arith, p .1 .1 .1, f)))
+
+field-of-requires-2 : tie.Need-field-of-requires-2
+field-of-requires-2 c κs = search needs
+
+read-expression-requires : tie.Need-read-expression-requires
+read-expression-requires c κs =
+    let p = c .before .before .before .before .before .before .before .before .pre in
+    let y = c .before .before .before .read-aim .ensures .aims (c .before .before .if1 .taken) in
+    let f = fields-2-3-le (c .before .before .before .before .before .before .before .before .args .line .now) _ _ (c .before .before .before .before .before .field-of .ensures) (c .before .field-of2 .ensures) in
+    (p .0, (omega (arith, p .1 .1 .0, f, y .words-few), omega (arith, p .1 .1 .1, f, y .pieces-few)))
+
+enum-known-end : tie.Need-enum-known-end
+enum-known-end c = search needs
+
+do-cells-requires : tie.Need-do-cells-requires
+do-cells-requires c κs =
+    let p = c .before .before .before .before .before .before .before .before .before .before .before .before .pre in
+    let y = c .before .before .before .before .before .before .before .read-aim .ensures .aims (c .before .before .before .before .before .before .if1 .taken) in
+    let f = fields-2-3-le (c .before .before .before .before .before .before .before .before .before .before .before .before .args .line .now) _ _ (c .before .before .before .before .before .before .before .before .before .field-of .ensures) (c .before .before .before .before .before .field-of2 .ensures) in
+    let g = rw (c .before .end .given .1) at (c .before .before .before .read-expression .ensures .grown) in
+    (p .1 .0, (omega (arith, p .1 .1 .0), (omega (arith, p .1 .1 .0, f, y .words-few), omega (arith, p .1 .1 .0, f, y .words-few, g .words-most, g .inside))))
+
+enum-told : tie.Need-enum-told
+enum-told c = search needs
+
+no-row-requires : tie.Need-no-row-requires
+no-row-requires c κs = search needs
+
+no-row-requires-2 : tie.Need-no-row-requires-2
+no-row-requires-2 c κs = search needs
+
+returns : tie.Need-returns
+returns c =
+    let a = c .before .before .before .before .before .before .before .before .before .before .before .before .before .args in
+    let rs = entries (a .text .now) (a .d) in
+    let end = c .before .before .end .given .0 .0 in
+    let w = c .before .before .end .given .0 .1 .0 in
+    let aim = c .before .before .before .before .before .before .before .before .read-aim .result in
+    let mid = c .before .before .before .before .before .before .before .before .read-aim .last .1 .1 .1 .0 in
+    let after = c .before .before .before .before .read-expression .last .1 .1 .1 .0 in
+    let f = c .before .before .before .before .before .before .before .before .before .before .field-of .result .now in
+    let g = c .before .before .before .before .before .before .field-of2 .result .now in
+    let y = c .before .before .before .before .before .before .before .before .read-aim .ensures .aims (c .before .before .before .before .before .before .before .if1 .taken) in
+    let m = rw (c .before .before .end .given .1) at (c .before .before .before .before .read-expression .ensures .meets) in
+    let k = read-as (expression rs g) end w (record { place = 0; words = aim .end .words; pieces = aim .end .pieces }) mid after m in
+    let r : RowRead = record { cells = c .do-cells .result; end = end; found = true } in
+    record {
+      forms = λ t e x u from before i h.
+          with-fields rs (a .line .now) r from before after e x f g (c .before .before .before .before .before .before .before .before .before .before .field-of .ensures) (c .before .before .before .before .before .before .field-of2 .ensures)
+          (row-forms e x u from (a .condition) before (a .code .now) h (destination rs f) f aim mid y (expression rs g) end w after 0 k (a .start) r i (c .do-cells .ensures) refl);
+      lacks = λ t. not-so true refl t;
+    }
+
+returns-2 : tie.Need-returns-2
+returns-2 c =
+    record {
+      forms = λ t. not-so _ t (c .no-row .ensures);
+      lacks = λ t e x. no-value e x _ _ (ap (expression _) (sym (c .before .before .before .before .before .field-of2 .ensures)) ∙ faulty _ _ _ _ (rw (c .before .enum-told .given .1) at (c .before .before .before .read-expression .ensures .meets)));
+    }
+
+returns-3 : tie.Need-returns-3
+returns-3 c =
+    record {
+      forms = λ t. not-so _ t (c .no-row2 .ensures);
+      lacks = λ t e x. no-destination e x _ _ (ap (λ (l : List ℕ). isSomewhere (destination (entries (c .before .before .before .before .before .before .before .args .text .now) (c .before .before .before .before .before .before .before .args .d)) l)) (sym (c .before .before .before .before .field-of .ensures)) ∙ c .before .before .read-aim .ensures .misses (c .before .if1 .left));
+    }
+
+pub read-action-spec : {M : Type 1} → statement M
+read-action-spec =
+    tie.close
+    (tie.spec
+    field-of-requires
+    read-aim-requires
+    field-of-requires-2
+    read-expression-requires
+    enum-known-end
+    do-cells-requires
+    enum-told
+    no-row-requires
+    no-row-requires-2
+    returns
+    returns-2
+    returns-3)

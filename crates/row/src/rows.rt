@@ -1,0 +1,143 @@
+// The lines of rows: `go` and `do`.
+use crate::actions;
+use crate::cells;
+use crate::cells::ROW_CELLS;
+use crate::limits;
+use crate::limits::TABLE_CELLS;
+use declaration::faults::Fault;
+use declaration::lines;
+use declaration::lines::Progress;
+use declaration::lines::Status;
+use declaration::lines::Step;
+use declaration::targets;
+use declaration::targets::Target;
+use expression::code::CODE_PLACES;
+use expression::code::Cursor;
+use expression::code::Part;
+use expression::fields::read_expression;
+use text::fields;
+use text::names;
+ghost use mathlib.Core.Path.{_≡_};
+ghost use Prim.Native.Nat.{_≤_};
+ghost use lib.ListN.{length};
+ghost use Rattle.text.specs.Fields.{lines as Fields·lines};
+ghost use Rattle.declaration.specs.Limits.{mostBytes, longestLine, mostRows};
+ghost use Rattle.declaration.specs.Stored.{Within};
+ghost use Rattle.row.specs.Lines.{goLine, doLine, rowsPassed, missingAt};
+ghost use Rattle.row.specs.Stored.{Takes, Put};
+
+// The rows passed over, 0 where the label is missing.
+fn rows_passed(target: Target) -> u16
+    ensures { λ r. ⌜ r ≡ rowsPassed target ⌝ }
+{
+    match target {
+        Target::Passes(n) => n,
+        Target::Missing => 0,
+    }
+}
+
+// The line of the first `go` without its label: line n, if this one's is missing and none was before it.
+fn missing_at(target: Target, n: usize, before: usize) -> usize
+    ensures { λ r. ⌜ r ≡ missingAt target n before ⌝ }
+{
+    match target {
+        Target::Passes(_) => before,
+        Target::Missing => if before == 0 { n } else { before },
+    }
+}
+
+// The progress with a row more, if there is room for it and its pieces.
+fn add_row(
+    q: Progress,
+    table: &mut [u16; TABLE_CELLS],
+    cells: [u16; ROW_CELLS],
+    end: Cursor,
+    missing: usize,
+) -> Step
+    requires { ⌜ q .rows ≤ mostRows ⌝ }
+    ensures { λ r. ⌜ Put q cells end missing r (now (table .entry)) (now (table .exit)) ⌝ }
+{
+    if (q.rows < limits::ROWS) & (end.pieces <= limits::PIECES) {
+        cells::put_row(table, q.rows, cells);
+        let mut next = q;
+        next.rows = q.rows + 1;
+        next.words = end.words;
+        next.pieces = end.pieces;
+        next.begun = true;
+        next.missing = missing;
+        Step {
+            progress: next,
+            status: Status::Goes,
+        }
+    } else {
+        lines::refused(q, Fault::Limit)
+    }
+}
+
+// The `go` line with number n, above what stands below it.
+pub fn go_line(
+    text: &[u8],
+    q: Progress,
+    n: usize,
+    line: &[u8],
+    below: &[u8],
+    code: &mut [u16; CODE_PLACES],
+    table: &mut [u16; TABLE_CELLS],
+) -> Step
+    requires { ⌜ Within q ⌝ ∗ ⌜ length (now line) ≤ longestLine ⌝ ∗ ⌜ length (now below) ≤ mostBytes ⌝ }
+    ensures { λ r. ⌜ Takes (now (text .entry)) (λ p. goLine p n (Fields·lines (now (below .entry))) (now (line .entry))) q r
+        (now (code .entry)) (now (code .exit)) (now (table .entry)) (now (table .exit)) ⌝ }
+{
+    if !fields::has_fields(line, 3) {
+        return lines::refused(q, Fault::Line);
+    }
+    match read_expression(
+        text,
+        q.registers,
+        fields::field_of(line, 1),
+        code,
+        q.words,
+        q.pieces,
+    ) {
+        Part::Found(end, _) => {
+            let label = fields::field_of(line, 2);
+            if names::is_name(label) {
+                let target = targets::passes(label, below);
+                let cells = cells::go_cells(q.words, end.words, rows_passed(target));
+                add_row(q, table, cells, end, missing_at(target, n, q.missing))
+            } else {
+                lines::refused(q, Fault::Label)
+            }
+        }
+        Part::Fault => lines::refused(q, Fault::Expression),
+    }
+}
+
+// A `do` line.
+pub fn do_line(
+    text: &[u8],
+    q: Progress,
+    line: &[u8],
+    code: &mut [u16; CODE_PLACES],
+    table: &mut [u16; TABLE_CELLS],
+) -> Step
+    requires { ⌜ Within q ⌝ ∗ ⌜ length (now line) ≤ longestLine ⌝ }
+    ensures { λ r. ⌜ Takes (now (text .entry)) (λ p. doLine p (now (line .entry))) q r
+        (now (code .entry)) (now (code .exit)) (now (table .entry)) (now (table .exit)) ⌝ }
+{
+    if !fields::has_fields(line, 4) {
+        return lines::refused(q, Fault::Line);
+    }
+    let from = Cursor {
+        place: 0,
+        words: q.words,
+        pieces: q.pieces,
+    };
+    let row = actions::read_row(text, q.registers, line, code, from);
+    if row.found {
+        let cells = row.cells;
+        add_row(q, table, cells, row.end, q.missing)
+    } else {
+        lines::refused(q, Fault::Expression)
+    }
+}

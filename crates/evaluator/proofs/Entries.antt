@@ -1,0 +1,207 @@
+-- The entry's laws: what the reader's tables, the checks and the run over the tables come to, by the definitions.
+-- Assumes nothing.
+use mathlib.Core.Path.{_≡_, refl, sym, ap, subst, _∙_}
+use mathlib.Core.Bool.{Bool, true, false, _&&_}
+use mathlib.Core.List.{List, [], _∷_, _++_, map}
+use Prim.Native.Nat.{ℕ, zero, suc, _+_, _*_, _%_, _≤_, _<_}
+use native.Mathlib.Nat.{mod-eq-of-lt}
+use native.Mathlib.Omega.{arith}
+use lib.Dec.{eqb, ltb}
+use lib.ListN.{length, getD, take, drop, List·getD-map, List·getD-eq-default}
+use lib.Seq.{sets}
+use borrow.Author.Tests.{ltb-true, ltb-false, lt-ltb, le-ltb}
+use Rattle.word.specs.Choice.{on, pick, choose}
+use Rattle.word.specs.Word.{widest, fits}
+use Rattle.state.specs.Limits.{memoryWords, rowPlaces}
+use Rattle.state.specs.Refusals.{orElse}
+use Rattle.state.specs.Refusals as state
+use Rattle.state.specs.Checks.{firstUnfit, checkMemory, checkRegisters, checkBudget, checkState, checkRowList}
+use Rattle.state.specs.declared.Reason.{Reason}
+use Rattle.state.specs.declared.Reason.the-variants.{Halted, Spent}
+use Rattle.state.specs.declared.Refusal.{Refusal}
+use Rattle.state.specs.declared.Refusal.the-variants.{Register, RowList}
+use Rattle.state.specs.declared.Verdict.{Verdict}
+use Rattle.state.specs.declared.Verdict.the-variants.{Fit, Unfit}
+use Rattle.state.proofs.Accepted.{memory-acceptable, registers-fitting, both-fit}
+use Rattle.text.specs.Names.{Named, entries, find}
+use Rattle.text.specs.declared.names.Dictionary.{Dictionary}
+use Rattle.text.proofs.Tests.{by-test, and-left}
+use Rattle.token.specs.References.{widthIn}
+use Rattle.token.proofs.Tokens.{entries-length, width-is}
+use Rattle.expression.proofs.Formed.{register-width}
+use Rattle.declaration.specs.Limits.{mostRows}
+use Rattle.declaration.specs.Rows.{Description}
+use Rattle.declaration.specs.declared.faults.Fault.{Fault}
+use Rattle.row.specs.Cells as row
+use Rattle.description.specs.Description.{accepted, turnedDown, runName, hasRun, readText}
+use Rattle.description.specs.Formed.{Formed}
+use Rattle.evaluator.specs.Value.{State}
+use Rattle.evaluator.specs.Cycle.{Cycle, cycle}
+use Rattle.evaluator.specs.Run.{Run, running, ended, runFrom, run}
+use Rattle.evaluator.specs.Evaluate.{Report, refused, finished, widthsOf, check, evaluateOf, evaluate, outcomeOf, report}
+use Rattle.evaluator.specs.declared.Outcome.the-variants.{Ran}
+use Rattle.evaluator.specs.declared.run.Course as course
+use Rattle.evaluator.specs.Fitting.{registerPlaces}
+use Rattle.evaluator.specs.Fitting as fitting
+use Rattle.evaluator.specs.Stored.{codePlaces, turning, runAt, stopped, coursingFrom, coursing, Coursed, widthAt, padded, checkPadded}
+use Rattle.evaluator.proofs.Cycles.{cycle-fits}
+use Rattle.evaluator.proofs.Tables.{cycle-is}
+use Rattle.evaluator.proofs.Padding.{padded-at, padded-past}
+
+-- the checks go by each place's width alone
+unfit-ext : (f g : ℕ → ℕ) → ((k : ℕ) → f k ≡ g k) → (at : ℕ) (xs : List ℕ) → firstUnfit f at xs ≡ firstUnfit g at xs
+unfolding firstUnfit
+unfit-ext f g e at [] = refl
+unfit-ext f g e at (x ∷ xs) =
+    ap (λ (w : ℕ). elim (fits w x) [ true ↦ firstUnfit f (suc at) xs | false ↦ at ]) (e at)
+    ∙ ap (λ (n : ℕ). elim (fits (g at) x) [ true ↦ n | false ↦ at ]) (unfit-ext f g e (suc at) xs)
+
+state-ext : (v w : List ℕ) → ((k : ℕ) → getD v k 0 ≡ getD w k 0) → (values memory : List ℕ) (budget : ℕ) → checkState v values memory budget ≡ checkState w values memory budget
+state-ext v w e values memory budget =
+    ap (λ (n : ℕ). orElse (checkMemory memory) (orElse (pick (ltb n (length values)) (Unfit (Register n)) Fit) (checkBudget budget)))
+    (unfit-ext (λ k. getD v k 0) (λ k. getD w k 0) e 0 values)
+
+-- a description whose registers a dictionary tells of a text
+module _ (text : List ℕ) (names : Dictionary) (d : Description) (are : d .registers ≡ entries text names) (formed : Formed d) where
+  count-is : length (d .registers) ≡ names .count
+  count-is = ap length are ∙ entries-length text names
+
+  width-told : (k : ℕ) → k < names .count → widthIn (d .registers) k ≡ getD (names .numbers) k 0
+  width-told k h = ap (λ (rs : List Named). widthIn rs k) are ∙ width-is text names k h
+
+  pub widths-narrow : (k : ℕ) → widthAt names k ≤ widest
+  widths-narrow k =
+      by-test (ltb k (names .count))
+      (λ t.
+      let h : k < names .count = ltb-true k (names .count) t in
+      subst (λ (n : ℕ). n ≤ widest) (sym (ap (λ (b : Bool). pick b (getD (names .numbers) k 0) 0) t ∙ sym (width-told k h)))
+      (register-width (d .registers) k (formed .registers-fit) (omega (arith, count-is, h)) .1))
+      (λ t. subst (λ (n : ℕ). n ≤ widest) (sym (ap (λ (b : Bool). pick b (getD (names .numbers) k 0) 0) t)) (omega arith))
+
+  list-at : (k : ℕ) → getD (widthsOf d) k 0 ≡ widthIn (d .registers) k
+  list-at k = List·getD-map (λ (e : Named). e .number) (d .registers) k (record { name = []; number = 0 })
+
+  none-past : (k : ℕ) → length (d .registers) ≤ k → widthIn (d .registers) k ≡ 0
+  none-past k h = ap (λ (e : Named). e .number) (List·getD-eq-default (d .registers) (record { name = []; number = 0 }) h)
+
+  same-width : (k : ℕ) → getD (padded names) k 0 ≡ getD (widthsOf d) k 0
+  same-width k =
+      by-test (ltb k 16)
+      (λ t.
+      padded-at names k (ltb-true k 16 t)
+      ∙ by-test (ltb k (names .count))
+      (λ u. ap (λ (b : Bool). pick b (getD (names .numbers) k 0) 0) u ∙ sym (width-told k (ltb-true k (names .count) u)) ∙ sym (list-at k))
+      (λ u. ap (λ (b : Bool). pick b (getD (names .numbers) k 0) 0) u ∙ sym (none-past k (omega (arith, count-is, ltb-false k (names .count) u))) ∙ sym (list-at k)))
+      (λ t. padded-past names k (ltb-false k 16 t) ∙ sym (none-past k (omega (arith, formed .few-registers, ltb-false k 16 t))) ∙ sym (list-at k))
+
+  pub checked : (registers memory : List ℕ) (budget : ℕ) (list : List ℕ)
+      → orElse (checkPadded names registers memory budget) (checkRowList (length list)) ≡ check d registers memory budget list
+  checked registers memory budget list =
+      ap (λ (v : Verdict). orElse v (checkRowList (length list))) (state-ext (padded names) (widthsOf d) same-width registers memory budget)
+
+  -- RUN's place
+  run-below : find runName (d .registers) < 16
+  run-below =
+      let h = ltb-true (find runName (d .registers)) (length (d .registers)) (and-left (ltb (find runName (d .registers)) (length (d .registers))) (eqb (widthIn (d .registers) (find runName (d .registers))) 1) (formed .has-run)) in
+      omega (arith, h, formed .few-registers)
+
+  pub run-read : (place : ℕ) → place ≡ find runName (entries text names) → (s : State) → runAt place s ≡ running d s
+  run-read place e s =
+      let i = e ∙ ap (find runName) (sym are) in
+      ap (λ (k : ℕ). getD (s .registers) k 0) (ap (λ (k : ℕ). k % 16) i ∙ mod-eq-of-lt run-below)
+
+-- what passes the checks
+roomy : (b : Bool) → pick b (Unfit RowList) Fit ≡ Fit → b ≡ false
+roomy true e = let z : _≡_ {A = ℕ} 0 1 = cc in absurd (omega arith)
+roomy false e = refl
+
+module _ (d : Description) (registers memory : List ℕ) (budget : ℕ) (list : List ℕ) (e : check d registers memory budget list ≡ Fit) where
+  pub check-fits : length registers ≡ registerPlaces → fitting.Fit (d .registers) (record { registers = registers; memory = memory })
+  check-fits places =
+      let outer = both-fit (checkState (widthsOf d) registers memory budget) (checkRowList (length list)) e in
+      let first = both-fit (checkMemory memory) (orElse (checkRegisters (widthsOf d) registers) (checkBudget budget)) (outer .0) in
+      let second = both-fit (checkRegisters (widthsOf d) registers) (checkBudget budget) (first .1) in
+      record { places = places; values = registers-fitting (widthsOf d) registers (second .0); words = memory-acceptable memory (first .0) }
+
+  pub check-room : rowPlaces ≤ length list
+  check-room =
+      let outer = both-fit (checkState (widthsOf d) registers memory budget) (checkRowList (length list)) e in
+      ltb-false (length list) rowPlaces (roomy (ltb (length list) rowPlaces) (outer .1))
+
+-- the run over the tables is the run of the rows
+module _ (d : Description) (formed : Formed d) (code table : List ℕ) (count place : ℕ)
+    (turns : (s : State) → fitting.Fit (d .registers) s → turning code table 0 count 0 s ≡ cycle (d .rows) s)
+    (read : (s : State) → runAt place s ≡ running d s) where
+  stopped-is : (done : ℕ) (c : Cycle) → stopped place done c ≡ ended d done c
+  stopped-is done c = ap (λ (n : ℕ). record { state = c .state; steps = done; reason = choose n Spent Halted; acted = c .acted }) (read (c .state))
+
+  runs-from : (left done : ℕ) (c : Cycle) → fitting.Fit (d .registers) (c .state) → coursingFrom code table count place left done c ≡ runFrom d left done c
+  unfolding coursingFrom runFrom
+  runs-from zero done c f = stopped-is done c
+  runs-from (suc left) done c f =
+      ap (λ (n : ℕ). elim (on n) [ true ↦ coursingFrom code table count place left (suc done) (turning code table 0 count 0 (c .state)) | false ↦ stopped place done c ]) (read (c .state))
+      ∙ ap (λ (x : Run). elim (on (running d (c .state))) [ true ↦ x | false ↦ stopped place done c ])
+      (ap (coursingFrom code table count place left (suc done)) (turns (c .state) f)
+      ∙ runs-from left (suc done) (cycle (d .rows) (c .state)) (cycle-fits (d .registers) (d .rows) (formed .rows-formed) (c .state) f))
+      ∙ ap (λ (x : Run). elim (on (running d (c .state))) [ true ↦ runFrom d left (suc done) (cycle (d .rows) (c .state)) | false ↦ x ]) (stopped-is done c)
+
+  run-is : (budget : ℕ) (s : State) → fitting.Fit (d .registers) s → coursing code table count place budget s ≡ run d budget s
+  unfolding run
+  run-is budget s f = runs-from budget 0 (record { state = s; acted = [] }) f
+
+-- the tables that the reader fills
+pub tables-run : (d : Description) → Formed d → (code₀ table₀ code table : List ℕ) (count place : ℕ) → count ≡ length (d .rows) → length code₀ ≡ codePlaces
+    → length table₀ ≡ row.rowCells * mostRows → code ≡ sets code₀ 0 (row.code (d .rows)) → table ≡ sets table₀ 0 (row.cells 0 (d .rows))
+    → ((s : State) → runAt place s ≡ running d s) → (budget : ℕ) (s : State) → fitting.Fit (d .registers) s → coursing code table count place budget s ≡ run d budget s
+tables-run d formed code₀ table₀ code table count place n lc lt ec et read budget s f =
+    run-is d formed code table count place
+    (λ x g. ap (λ (k : ℕ). turning code table 0 k 0 x) n ∙ cycle-is d formed code₀ table₀ lc lt ec et x g)
+    read budget s f
+
+-- the answer of each way
+module _ (text registers memory : List ℕ) (budget : ℕ) (list : List ℕ) where
+  pub text-refused : (f : Fault) (n : ℕ) → readText text ≡ turnedDown f n → evaluate text registers memory budget list ≡ refused (Rattle.declaration.specs.Faults.numberOf f) n registers memory list
+  unfolding evaluate evaluateOf
+  text-refused f n e = ap (λ a. evaluateOf a registers memory budget list) e
+
+  module _ (d : Description) (e : readText text ≡ accepted d) where
+    opened : evaluate text registers memory budget list
+        ≡ elim (check d registers memory budget list) [
+          | Fit ↦ finished (run d budget (record { registers = registers; memory = memory })) list
+          | Unfit why ↦ refused (state.numberOf why) (state.placeOf why) registers memory list
+        ]
+    unfolding evaluate evaluateOf
+    opened = ap (λ a. evaluateOf a registers memory budget list) e
+
+    pub state-refused : (why : Refusal) → check d registers memory budget list ≡ Unfit why
+        → evaluate text registers memory budget list ≡ refused (state.numberOf why) (state.placeOf why) registers memory list
+    state-refused why h =
+        opened
+        ∙ ap (λ (v : Verdict). elim v [
+          | Fit ↦ finished (run d budget (record { registers = registers; memory = memory })) list
+          | Unfit w ↦ refused (state.numberOf w) (state.placeOf w) registers memory list
+        ]) h
+
+    pub evaluated : check d registers memory budget list ≡ Fit
+        → evaluate text registers memory budget list ≡ finished (run d budget (record { registers = registers; memory = memory })) list
+    evaluated h =
+        opened
+        ∙ ap (λ (v : Verdict). elim v [
+          | Fit ↦ finished (run d budget (record { registers = registers; memory = memory })) list
+          | Unfit w ↦ refused (state.numberOf w) (state.placeOf w) registers memory list
+        ]) h
+
+-- a run's end and the rows put at the front of a caller's list
+pub finish : (x : Run) (t : course.Course) (memory list rows rows′ : List ℕ) → Coursed x t memory list → rows′ ≡ take (t .listed) list ++ drop (t .listed) rows
+    → report (record { registers = t .registers; outcome = Ran (t .reason) (t .steps) (t .listed) }) memory rows′ ≡ finished x rows
+finish x t memory list rows rows′ k e =
+    ap (λ (l : List ℕ). outcomeOf (Ran (t .reason) (t .steps) (t .listed)) l memory rows′) (ap (λ (s : State). s .registers) (k .state-is))
+    ∙ ap (λ (l : List ℕ). outcomeOf (Ran (t .reason) (t .steps) (t .listed)) (x .state .registers) l rows′) (ap (λ (s : State). s .memory) (k .state-is))
+    ∙ ap (λ (l : List ℕ). outcomeOf (Ran (t .reason) (t .steps) (t .listed)) (x .state .registers) (x .state .memory) l)
+    (e ∙ ap (λ (l : List ℕ). l ++ drop (t .listed) rows) (k .list-is) ∙ ap (λ (n : ℕ). x .acted ++ drop n rows) (k .count-is))
+    ∙ ap (λ (n : ℕ). outcomeOf (Ran (t .reason) (t .steps) n) (x .state .registers) (x .state .memory) (x .acted ++ drop (length (x .acted)) rows)) (k .count-is)
+    ∙ ap (λ (n : ℕ). outcomeOf (Ran (t .reason) n (length (x .acted))) (x .state .registers) (x .state .memory) (x .acted ++ drop (length (x .acted)) rows)) (k .steps-are)
+    ∙ ap (λ (w : Reason). outcomeOf (Ran w (x .steps) (length (x .acted))) (x .state .registers) (x .state .memory) (x .acted ++ drop (length (x .acted)) rows)) (k .reason-is)
+
+pub coursed-as : {x y : Run} {t : course.Course} {memory list : List ℕ} → x ≡ y → Coursed x t memory list → Coursed y t memory list
+coursed-as {x} {y} {t} {memory} {list} e k = subst (λ (z : Run). Coursed z t memory list) e k

@@ -1,0 +1,80 @@
+-- The widths of the sixteen places, and what the checks make of them.
+-- Assumes nothing.
+use mathlib.Core.Path.{_≡_, refl, sym, ap, subst, _∙_}
+use mathlib.Core.Bool.{Bool, true, false}
+use mathlib.Core.List.{List, [], _∷_, map}
+use Prim.Native.Nat.{ℕ, zero, suc, _+_, _≤_, _<_}
+use native.Mathlib.Nat.{zero-add, add-zero}
+use native.Mathlib.Omega.{arith}
+use lib.Dec.{eqb, ltb}
+use lib.ListN.{length, getD, set, List·getD-eq-default}
+use lib.Seq.{ext-getD, getD-set-same, getD-set-other}
+use borrow.Author.Tests.{lt-ltb, le-ltb, ltb-true, ltb-false, eqb-true, eqb-false}
+use Rattle.word.specs.Choice.{pick}
+use Rattle.word.specs.Word.{widest}
+use Rattle.state.specs.Refusals.{orElse}
+use Rattle.state.specs.declared.Refusal.{Refusal}
+use Rattle.state.specs.declared.Verdict.{Verdict}
+use Rattle.state.specs.declared.Verdict.the-variants.{Fit, Unfit}
+use Rattle.text.specs.declared.names.Dictionary.{Dictionary}
+use Rattle.text.proofs.Tests.{by-test}
+use Rattle.evaluator.specs.Stored.{widthAt, widthsFrom, padded}
+
+from-length : (d : Dictionary) (n k : ℕ) → length (widthsFrom d k n) ≡ n
+unfolding widthsFrom
+from-length d zero k = refl
+from-length d (suc n) k = ap suc (from-length d n (suc k))
+
+from-at : (d : Dictionary) (n k i : ℕ) → i < n → getD (widthsFrom d k n) i 0 ≡ widthAt d (k + i)
+unfolding widthsFrom
+from-at d zero k i h = absurd (omega arith)
+from-at d (suc n) k zero h = ap (widthAt d) (sym (add-zero k))
+from-at d (suc n) k (suc i) h = from-at d n (suc k) i (omega arith) ∙ ap (widthAt d) {x = suc k + i} {y = k + suc i} (omega arith)
+
+pub padded-length : (d : Dictionary) → length (padded d) ≡ 16
+padded-length d = from-length d 16 0
+
+pub padded-at : (d : Dictionary) (k : ℕ) → k < 16 → getD (padded d) k 0 ≡ widthAt d k
+padded-at d k h = from-at d 16 0 k h ∙ ap (widthAt d) (zero-add k)
+
+pub padded-past : (d : Dictionary) (k : ℕ) → 16 ≤ k → getD (padded d) k 0 ≡ 0
+padded-past d k h = List·getD-eq-default (padded d) 0 (omega (arith, padded-length d, h))
+
+pub padded-le : (d : Dictionary) (w : List ℕ) → w ≡ padded d → ((k : ℕ) → widthAt d k ≤ widest) → (k : ℕ) → getD w k 0 ≤ widest
+padded-le d w e h k =
+    subst (λ (l : List ℕ). getD l k 0 ≤ widest) (sym e)
+    (by-test (ltb k 16)
+    (λ t. subst (λ (n : ℕ). n ≤ widest) (sym (padded-at d k (ltb-true k 16 t))) (h k))
+    (λ t. subst (λ (n : ℕ). n ≤ widest) (sym (padded-past d k (ltb-false k 16 t))) (omega arith)))
+
+-- the widths so far
+pub record Filled (d : Dictionary) (i : ℕ) (w : List ℕ) : Type 0 where
+  pub within : i ≤ 16
+  pub size : length w ≡ 16
+  pub are : (k : ℕ) → k < i → getD w k 0 ≡ widthAt d k
+
+pub filled-next : (d : Dictionary) (i : ℕ) (w : List ℕ) (x : ℕ) → Filled d i w → i < 16 → x ≡ widthAt d i → length (set w i x) ≡ 16 → Filled d (i + 1) (set w i x)
+filled-next d i w x f h e l =
+    record {
+      within = omega arith;
+      size = l;
+      are = λ k q.
+          by-test (eqb k i)
+          (λ t.
+          let j : k ≡ i = eqb-true k i t in
+          ap (λ (m : ℕ). getD (set w i x) m 0) j ∙ getD-set-same w i x 0 (omega (arith, f .size)) ∙ e ∙ ap (widthAt d) (sym j))
+          (λ t. getD-set-other w i k x 0 (eqb-false k i t) ∙ f .are k (below k q (eqb-false k i t)));
+    }
+  where
+    below : (k : ℕ) → k < i + 1 → (k ≡ i → ⊥) → k < i
+    below k q n = omega arith
+
+pub filled-end : (d : Dictionary) (i : ℕ) (w : List ℕ) → Filled d i w → 16 ≤ i → w ≡ padded d
+filled-end d i w f h =
+    ext-getD 0 w (padded d) (f .size ∙ sym (padded-length d)) (λ k q. f .are k (omega (arith, f .size)) ∙ sym (padded-at d k (omega (arith, f .size))))
+
+pub or-fit : (x y : Verdict) → x ≡ Fit → orElse x y ≡ y
+or-fit x y e = rw e
+
+pub or-unfit : (x y : Verdict) (why : Refusal) → x ≡ Unfit why → orElse x y ≡ Unfit why
+or-unfit x y why e = rw e

@@ -1,0 +1,92 @@
+// The evaluator: runs a description's rows, cycle by cycle, and lists the rows that acted.
+mod checks;
+mod cycle;
+mod rows;
+mod run;
+mod values;
+
+use declaration::faults::Fault;
+use description::reader;
+use expression::code::CODE_PLACES;
+use row::limits::ROWS;
+use row::limits::TABLE_CELLS;
+use state::Reason;
+use state::Refusal;
+use state::Verdict;
+use text::names;
+ghost use mathlib.Core.Path.{_≡_};
+ghost use Rattle.evaluator.specs.Evaluate.{report, evaluate as evaluation};
+
+// The values of a description's registers, by their numbers; a place without a register holds 0.
+pub struct Registers {
+    pub values: [u16; 16],
+}
+
+// What came of a call.
+pub enum Outcome {
+    // reason, cycles done, rows listed
+    Ran(Reason, u64, usize),
+    // what the text is turned down for, and the line
+    Unread(Fault, usize),
+    // what the state is turned down for
+    Refused(Refusal),
+}
+
+// The registers, as they came after a refusal, beside what came of the call.
+pub struct Answer {
+    pub registers: Registers,
+    pub outcome: Outcome,
+}
+
+// Runs a description on a caller's memory and registers, and lists the rows that acted in the last cycle.
+pub fn evaluate(
+    text: &[u8],
+    memory: &mut [u16],
+    registers: Registers,
+    budget: u64,
+    rows: &mut [u8],
+) -> Answer
+    ensures { λ r. ⌜ report r (now (memory .exit)) (now (rows .exit))
+        ≡ evaluation (now (text .entry)) (registers .values) (now (memory .entry)) budget (now (rows .entry)) ⌝ }
+{
+    let mut code = [0u16; CODE_PLACES];
+    let mut table = [0u16; TABLE_CELLS];
+    let read = reader::read(text, &mut code, &mut table);
+    let verdict = read.verdict;
+    match verdict {
+        reader::Verdict::Refused(f, line) => Answer {
+            registers: registers,
+            outcome: Outcome::Unread(f, line),
+        },
+        reader::Verdict::Accepted => {
+            let known = read.registers;
+            match checks::check(memory, known, registers, budget, rows.len()) {
+                Verdict::Unfit(why) => Answer {
+                    registers: registers,
+                    outcome: Outcome::Refused(why),
+                },
+                Verdict::Fit => {
+                    let place = names::place_of(text, known, b"RUN");
+                    let mut list = [0u8; ROWS];
+                    let end = run::run(
+                        &code,
+                        &table,
+                        read.rows,
+                        place,
+                        registers,
+                        memory,
+                        budget,
+                        &mut list,
+                    );
+                    run::put_rows(rows, &list, end.listed);
+                    let reason = end.reason;
+                    let after = end.registers;
+                    Answer {
+                        registers: after,
+                        outcome: Outcome::Ran(reason, end.steps, end.listed),
+                    }
+                }
+            }
+        }
+    }
+}

@@ -1,0 +1,94 @@
+-- What the rows' expressions come to, in the machine's own words: tests of one bit, the parts of LAC that are stored, and numbers that a store does not shorten.
+-- Assumes nothing.
+use mathlib.Core.Path.{_≡_, refl, ap, ap₂, _∙_}
+use mathlib.Core.Bool.{Bool, true, false, not, _&&_, _||_}
+use Prim.Native.Nat.{ℕ, zero, suc, _+_, _/_, _%_, _^_, _<_}
+use native.Mathlib.Nat.{not-suc-le-zero, le-of-suc-le-suc}
+use native.Mathlib.Omega.{arith}
+use lib.Bits.{bitAnd}
+use lib.Dec.{eqb}
+use Rattle.word.specs.Choice.{on, pick, bit}
+use Rattle.word.specs.Word.{wordBits, bits, withBits, complement}
+use Rattle.machine.specs.State.{lacBits, link, withAc, withoutAc}
+
+-- ---- one bit as a test
+
+pub on-bit : (t : Bool) → on (bit t) ≡ t
+on-bit true = refl
+on-bit false = refl
+
+pub bit-lt : (t : Bool) → bit t < 2
+bit-lt true = omega arith
+bit-lt false = omega arith
+
+not-not : (t : Bool) → t ≡ not (not t)
+not-not true = refl
+not-not false = refl
+
+-- x is the bit of a test
+pub record Flag (x : ℕ) (t : Bool) : Type 0 where
+  pub is : x ≡ bit t
+
+pub of-test : (t : Bool) → Flag (bit t) t
+of-test t = record { is = refl }
+
+pub of-bit : (x : ℕ) → x < 2 → Flag x (on x)
+of-bit zero h = record { is = refl }
+of-bit (suc zero) h = record { is = refl }
+of-bit (suc (suc x)) h = absurd (not-suc-le-zero (le-of-suc-le-suc (le-of-suc-le-suc h)))
+
+pub of-zero : (x : ℕ) → Flag (bit (eqb x 0)) (not (on x))
+of-zero x = record { is = ap bit (not-not (eqb x 0)) }
+
+-- "Not" of one bit, and "And" of two
+pub over : {x : ℕ} {t : Bool} → Flag x t → Flag (complement 1 x) (not t)
+over {x} {t} p = record { is = ap (complement 1) (p .is) ∙ go t }
+  where
+    go : (u : Bool) → complement 1 (bit u) ≡ bit (not u)
+    go true = refl
+    go false = refl
+
+pub both : {x y : ℕ} {t u : Bool} → Flag x t → Flag y u → on (bitAnd x y) ≡ (t && u)
+both {x} {y} {t} {u} p q = ap₂ (λ (a b : ℕ). on (bitAnd a b)) (p .is) (q .is) ∙ go t u
+  where
+    go : (a b : Bool) → on (bitAnd (bit a) (bit b)) ≡ (a && b)
+    go true true = refl
+    go true false = refl
+    go false true = refl
+    go false false = refl
+
+pub test : {x : ℕ} {t : Bool} → Flag x t → on x ≡ t
+test {x} {t} p = ap on (p .is) ∙ on-bit t
+
+-- a bit that is set where a test holds
+pub set-where : (b t : Bool) → pick t 1 (bit b) ≡ bit (b || t)
+set-where true true = refl
+set-where true false = refl
+set-where false true = refl
+set-where false false = refl
+
+-- ---- numbers that a store does not shorten
+
+pub word-kept : {x : ℕ} → x < 2 ^ wordBits → x % 2 ^ wordBits ≡ x
+word-kept h = omega arith
+
+pub lac-kept : {x : ℕ} → x < 2 ^ lacBits → x % 2 ^ lacBits ≡ x
+lac-kept h = omega arith
+
+-- ---- the parts of LAC
+
+pub ac-stored : (lac : ℕ) {v : ℕ} → v < 2 ^ wordBits → withBits lacBits 1 12 lac v ≡ withAc lac v
+ac-stored lac h = omega arith
+
+pub ac-cleared : (lac : ℕ) → withBits lacBits 1 12 lac 0 ≡ withoutAc lac
+ac-cleared lac = omega arith
+
+pub link-cleared : {lac : ℕ} → lac < 2 ^ lacBits → withBits lacBits 0 0 lac 0 ≡ lac % 2 ^ wordBits
+link-cleared h = omega arith
+
+pub link-complemented : {lac : ℕ} → lac < 2 ^ lacBits → withBits lacBits 0 0 lac (complement 1 (link lac)) ≡ (lac + 2 ^ wordBits) % 2 ^ lacBits
+link-complemented h = omega arith
+
+-- "a first address from 0010 to 0017", by its bits 0 to 8
+pub index-bits : {a : ℕ} → a < 2 ^ wordBits → bits wordBits 0 8 a ≡ a / 8
+index-bits h = omega arith

@@ -1,0 +1,86 @@
+-- The claim wherever the evaluator does not refuse: its checks find nothing only at a start that meets document 01's conditions.
+-- Assumes nothing.
+use mathlib.Core.Path.{_≡_, refl, sym, ap, _∙_, subst}
+use mathlib.Core.Bool.{Bool, true, false}
+use mathlib.Core.List.{List}
+use Prim.Native.Nat.{ℕ}
+use native.Mathlib.Omega.{arith}
+use lib.Dec.{ltb}
+use lib.ListN.{length}
+use borrow.Author.Tests.{ltb-false}
+use Rattle.word.specs.Choice.{pick}
+use Rattle.state.specs.Limits.{rowPlaces}
+use Rattle.state.specs.Refusals.{numberOf, placeOf, orElse}
+use Rattle.state.specs.Checks.{checkMemory, checkRegisters, checkBudget, checkState, checkRowList}
+use Rattle.state.specs.declared.Refusal.{Refusal}
+use Rattle.state.specs.declared.Refusal.the-variants.{MemoryLength, Word, Register, Budget, RowList}
+use Rattle.state.specs.declared.Verdict.{Verdict}
+use Rattle.state.specs.declared.Verdict.the-variants.{Fit, Unfit}
+use Rattle.state.proofs.Accepted.{memory-acceptable, registers-fitting, budget-within, both-fit}
+use Rattle.machine.specs.declared.Machine.{Machine}
+use Rattle.machine.specs.State.{values}
+use Rattle.emulator.specs.Emulate as emulator
+use Rattle.emulator.specs.Emulate.{emulate}
+use Rattle.declaration.specs.Limits.{mostRegisters}
+use Rattle.description.specs.Description as text
+use Rattle.evaluator.specs.Evaluate.{Report, refused, finished, widthsOf, check, evaluateOf, evaluate}
+use Rattle.shipped.specs.Text.{shippedText}
+use Rattle.shipped.specs.Shipped.{shipped}
+use Rattle.shipped.specs.Claim.{machinePart, Start, Same, cyclesOf, Claim}
+use Rattle.shipped.proofs.Accepted.{shipped-accepted}
+use Rattle.shipped.proofs.Agree.{runs-agree}
+
+-- no refusal has the number 0
+numbered : (why : Refusal) → numberOf why ≡ 0 → ⊥
+numbered MemoryLength e = omega arith
+numbered (Word place) e = omega arith
+numbered (Register place) e = omega arith
+numbered Budget e = omega arith
+numbered RowList e = omega arith
+
+abbrev number : Report → ℕ
+number r = r .number
+
+passes : (v : Verdict) (ran : Report) (registers memory list : List ℕ)
+    → number (elim v [ Fit ↦ ran | Unfit why ↦ refused (numberOf why) (placeOf why) registers memory list ]) ≡ 0 → v ≡ Fit
+passes Fit ran registers memory list e = refl
+passes (Unfit why) ran registers memory list e = absurd (numbered why e)
+
+roomy : (b : Bool) → pick b (Unfit RowList) Fit ≡ Fit → b ≡ false
+roomy true e = let z : _≡_ {A = ℕ} 0 1 = cc in absurd (omega arith)
+roomy false e = refl
+
+module _ (m : Machine) (registers memory : List ℕ) (budget : ℕ) (list : List ℕ) where
+  start-of : length registers ≡ mostRegisters → machinePart registers ≡ values m → check shipped registers memory budget list ≡ Fit
+      → Start m registers memory budget list
+  start-of places machine e =
+      let outer = both-fit (checkState (widthsOf shipped) registers memory budget) (checkRowList (length list)) e in
+      let first = both-fit (checkMemory memory) (orElse (checkRegisters (widthsOf shipped) registers) (checkBudget budget)) (outer .0) in
+      let second = both-fit (checkRegisters (widthsOf shipped) registers) (checkBudget budget) (first .1) in
+      record {
+        places = places;
+        machine = machine;
+        fitting = registers-fitting (widthsOf shipped) registers (second .0);
+        acceptable = memory-acceptable memory (first .0);
+        within = budget-within budget (second .1);
+        roomy = ltb-false (length list) rowPlaces (roomy (ltb (length list) rowPlaces) (outer .1));
+      }
+
+  unrefused : evaluate shippedText registers memory budget list .number ≡ 0 → check shipped registers memory budget list ≡ Fit
+  unfolding evaluate evaluateOf
+  unrefused e =
+      passes (check shipped registers memory budget list) (finished (cyclesOf registers memory budget) list) registers memory list
+      (ap (λ (a : text.Answer). number (evaluateOf a registers memory budget list)) (sym shipped-accepted) ∙ e)
+
+  -- what the emulator refuses, the evaluator refuses too: so this is wherever neither refuses
+  pub unrefused-agree : length registers ≡ mostRegisters → machinePart registers ≡ values m
+      → evaluate shippedText registers memory budget list .number ≡ 0 → Claim m registers memory budget list
+  unrefused-agree places machine e = runs-agree m registers memory budget list (start-of places machine (unrefused e))
+
+  -- the same of two answers that are what the definitions give, as the entries' contracts say of theirs
+  pub answers-agree : length registers ≡ mostRegisters → machinePart registers ≡ values m
+      → (a : emulator.Report) (b : Report) → a ≡ emulate m memory budget → b ≡ evaluate shippedText registers memory budget list
+      → b .number ≡ 0 → Same a b
+  answers-agree places machine a b p q e =
+      subst (λ (x : emulator.Report). Same x b) (sym p)
+      (subst (λ (y : Report). Same (emulate m memory budget) y) (sym q) (unrefused-agree places machine (ap number (sym q) ∙ e) .same))

@@ -1,0 +1,37 @@
+-- `shipped::run_both`: the claim of the two programs' own answers.
+use Rattle.shipped.proofs.Answers.{together}
+use borrow.Author.Needs.{needs}
+use Rattle.shipped.proofs.run_both.Statement.{statement}
+use Rattle.shipped.proofs.run_both.Tie as tie
+
+emulate-requires : tie.Need-emulate-requires
+emulate-requires c κs = search needs
+
+evaluate-shipped-requires : tie.Need-evaluate-shipped-requires
+evaluate-shipped-requires c κs = search needs
+
+same-length : tie.Need-same-length
+same-length c = search needs
+
+same-length-2 : tie.Need-same-length-2
+same-length-2 c = search needs
+
+same-length-3 : tie.Need-same-length-3
+same-length-3 c = search needs
+
+returns : tie.Need-returns
+returns c =
+    let a = c .before .before .before .before .before .before .before .before .before .before .before .before .before .before .args in
+    let g = c .before .before .before .before .before .before .before .before .before .before .before .before .before .before .good .1 .1 .1 .0 in
+    together (a .m) (a .registers .values) (a .first .now) (a .second .now) (a .budget) (a .rows .now) _ _ (search needs) (c .before .before .before .before .before .before .before .before .before .emulate .ensures) (c .before .before .before .before .evaluate-shipped .ensures)
+
+pub run-both-spec : {M : Type 1} → statement M
+run-both-spec =
+    tie.close
+    (tie.spec
+    emulate-requires
+    evaluate-shipped-requires
+    same-length
+    same-length-2
+    same-length-3
+    returns)

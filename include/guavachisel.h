@@ -1,4 +1,4 @@
-/* Guavachisel's C interface. Every function takes whatever it is handed and always returns. After a refusal memory and registers are as they came. */
+/* Guavachisel's C interface. Every function takes whatever it is handed and always returns. After a refusal memory, registers and row list are as they came. */
 #ifndef GUAVACHISEL_H
 #define GUAVACHISEL_H
 
@@ -26,6 +26,18 @@ void guavachisel_emulate(uint16_t *memory, size_t words, uint16_t registers[6], 
  * outcome[1]: the line of the refusal, 0 if the text is accepted or too long.
  */
 void guavachisel_read(const uint8_t *text, size_t bytes, uint64_t outcome[2]);
+
+/*
+ * Runs a description's rows for at most `budget` cycles.
+ * registers: the values of the description's registers, in its order; 0 where there is none. rows: a list of at least 128 places, in which the rows that acted in the
+ * last cycle stand first, rising; later places stay.
+ * outcome[0]: 0, or the refusal's number: 1 to 8 as above, 11 to 14 as for guavachisel_emulate, 15 a row list shorter than 128 places.
+ * outcome[1]: the cycles done; after a refusal the text's line or the lowest offending place.
+ * outcome[2]: 1 halted, 2 spent, 0 refused.
+ * outcome[3]: the rows listed.
+ */
+void guavachisel_evaluate(const uint8_t *text, size_t bytes, uint16_t *memory, size_t words, uint16_t registers[16], uint64_t budget, uint8_t *rows, size_t places,
+                          uint64_t outcome[4]);
 
 #ifdef __cplusplus
 }

@@ -29,7 +29,7 @@ six (a ∷ b ∷ c ∷ d ∷ f ∷ g ∷ []) e = refl
 six (a ∷ b ∷ c ∷ d ∷ f ∷ g ∷ h ∷ more) e = absurd (omega arith)
 
 -- no refusal has the number 0
-second-of : (why : Refusal) (steps : ℕ) → choose (numberOf why) (placeOf why) steps ≡ placeOf why
+pub second-of : (why : Refusal) (steps : ℕ) → choose (numberOf why) (placeOf why) steps ≡ placeOf why
 second-of MemoryLength steps = refl
 second-of (Word place) steps = refl
 second-of (Register place) steps = refl

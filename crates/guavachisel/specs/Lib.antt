@@ -1,2 +1,3 @@
 pub mod Emulation
 pub mod Reading
+pub mod Evaluation

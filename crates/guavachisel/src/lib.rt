@@ -1,4 +1,5 @@
 // The C interface. Each function takes whatever a caller hands over, and its contract says all that the caller finds afterwards.
 pub mod emulation;
+pub mod evaluation;
 mod numbers;
 pub mod reading;

@@ -9,7 +9,7 @@ ghost use Rattle.description.specs.Description.{readText};
 ghost use Rattle.guavachisel.specs.Reading.{outcomeOf};
 
 // The number of a fault.
-fn fault_number(f: Fault) -> u64
+pub(crate) fn fault_number(f: Fault) -> u64
     ensures { λ r. ⌜ r ≡ numberOf f ⌝ }
 {
     match f {

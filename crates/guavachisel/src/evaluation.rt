@@ -1,0 +1,45 @@
+// The evaluator for C callers: guavachisel_evaluate of include/guavachisel.h.
+use crate::numbers;
+use crate::reading;
+use evaluator::Outcome;
+use evaluator::Registers;
+ghost use mathlib.Core.Path.{_≡_};
+ghost use Rattle.guavachisel.specs.Evaluation.{Evaluated};
+
+// Runs a caller's description on the caller's memory and registers.
+#[no_mangle]
+pub extern "C" fn guavachisel_evaluate(
+    text: &[u8],
+    memory: &mut [u16],
+    registers: &mut [u16; 16],
+    budget: u64,
+    rows: &mut [u8],
+    outcome: &mut [u64; 4],
+)
+    ensures { λ r. ⌜ Evaluated (now (text .entry)) (now (registers .entry)) (now (memory .entry)) budget (now (rows .entry))
+        (now (registers .exit)) (now (memory .exit)) (now (rows .exit)) (now (outcome .exit)) ⌝ }
+{
+    let came = *registers;
+    let start = Registers { values: came };
+    let answer = evaluator::evaluate(text, memory, start, budget, rows);
+    let after = answer.registers;
+    let values = after.values;
+    *registers = values;
+    let end = answer.outcome;
+    match end {
+        Outcome::Ran(why, steps, listed) => {
+            *outcome = [0, steps, numbers::reason_number(why), listed as u64];
+        }
+        Outcome::Unread(f, line) => {
+            *outcome = [reading::fault_number(f), line as u64, 0, 0];
+        }
+        Outcome::Refused(why) => {
+            *outcome = [
+                numbers::refusal_number(why),
+                numbers::refusal_place(why),
+                0,
+                0,
+            ];
+        }
+    }
+}

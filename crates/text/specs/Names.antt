@@ -1,5 +1,5 @@
 -- Names and labels: "1 to 20 letters, digits or dots, a letter first, case kept". A dictionary holds the places of names in a text, with a
--- number for each: a register's width, a label's line.
+-- number for each: a register's width, 0 for a label.
 -- Assumes nothing.
 use Prim.Native.Nat.{ℕ, zero, suc, _+_}
 use mathlib.Core.Bool.{Bool, true, false, _&&_}

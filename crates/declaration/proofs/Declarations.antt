@@ -8,10 +8,10 @@ use native.Mathlib.Omega.{arith}
 use lib.Dec.{ltb}
 use lib.ListN.{length, take, drop}
 use borrow.Author.Tests.{lt-ltb, le-ltb}
-use Rattle.text.specs.Fields.{field, hasFields}
-use Rattle.text.specs.Names.{Named, entries, Added}
-use Rattle.text.specs.Constants.{decimalAt}
-use Rattle.text.specs.declared.names.Dictionary.{Dictionary}
+use Rattle.fields.specs.Fields.{field, hasFields}
+use Rattle.names.specs.Names.{Named, entries, Added}
+use Rattle.constants.specs.Constants.{decimalAt}
+use Rattle.names.specs.declared.Dictionary.{Dictionary}
 use Rattle.token.proofs.Tokens.{entries-length}
 use Rattle.declaration.specs.declared.faults.Fault.{Fault}
 use Rattle.declaration.specs.declared.faults.Fault.the-variants.{Line, Register, Label, Limit}

@@ -9,13 +9,13 @@ use lib.Dec.{ltb}
 use lib.ListN.{length, take, drop, length-drop}
 use lib.Seq.{drop-drop}
 use borrow.Author.Tests.{ltb-true}
-use Rattle.text.specs.Bytes.{same}
-use Rattle.text.specs.Fields.{tab, until, before, after, field, hasFields}
-use Rattle.text.specs.declared.bytes.Class.the-variants.{Other}
-use Rattle.text.proofs.Runs.{run-le}
-use Rattle.text.proofs.Lines.{before-length, few-fields, next-field, first-field}
-use Rattle.text.proofs.Strings.{equal, inner}
-use Rattle.text.proofs.Tests.{by-test, and-right}
+use Rattle.characters.specs.Characters.{same}
+use Rattle.fields.specs.Fields.{tab, until, before, after, field, hasFields}
+use Rattle.characters.specs.declared.Class.the-variants.{Other}
+use Rattle.characters.proofs.Runs.{run-le}
+use Rattle.fields.proofs.Lines.{before-length, few-fields, next-field, first-field}
+use Rattle.characters.proofs.Strings.{equal, inner}
+use Rattle.characters.proofs.Tests.{by-test, and-right}
 
 -- a line of several fields has a TAB
 pub has-tab : (n : ℕ) (s : List ℕ) → 1 < n → hasFields n s ≡ true → until tab s < length s

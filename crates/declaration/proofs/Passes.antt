@@ -7,8 +7,8 @@ use Prim.Native.Nat.{ℕ, _+_, _≤_, _<_}
 use native.Mathlib.Nat.{add-zero, zero-add}
 use native.Mathlib.Omega.{arith}
 use lib.ListN.{length}
-use Rattle.text.specs.Fields.{lineFeed, before, after, Line, lines, firstLine}
-use Rattle.text.proofs.Lines.{first-line, no-line}
+use Rattle.fields.specs.Fields.{lineFeed, before, after, Line, lines, firstLine}
+use Rattle.fields.proofs.Lines.{first-line, no-line}
 use Rattle.declaration.specs.declared.targets.Target.{Target}
 use Rattle.declaration.specs.declared.targets.Target.the-variants.{Passes, Missing}
 use Rattle.declaration.specs.Targets.{isAt, isRow, further, passes}

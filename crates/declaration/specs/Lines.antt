@@ -7,11 +7,11 @@ use mathlib.Core.List.{List, [], _∷_, _++_}
 use lib.Dec.{eqb, leb, ltb}
 use lib.ListN.{length}
 use Rattle.word.specs.Word.{widest}
-use Rattle.text.specs.Fields.{field, hasFields}
-use Rattle.text.specs.Names.{Named, isName, find}
-use Rattle.text.specs.Constants.{decimalAt}
-use Rattle.text.specs.declared.constants.Number.{Number}
-use Rattle.text.specs.declared.constants.Number.the-variants.{Plain, Unread}
+use Rattle.fields.specs.Fields.{field, hasFields}
+use Rattle.names.specs.Names.{Named, isName, find}
+use Rattle.constants.specs.Constants.{decimalAt}
+use Rattle.constants.specs.declared.Number.{Number}
+use Rattle.constants.specs.declared.Number.the-variants.{Plain, Unread}
 use Rattle.token.specs.Operators.{isReserved}
 use Rattle.declaration.specs.declared.faults.Fault.{Fault}
 use Rattle.declaration.specs.declared.faults.Fault.the-variants.{Line, Register, Label, Limit}

@@ -3,7 +3,7 @@
 -- Assumes nothing.
 use Prim.Native.Nat.{ℕ, _+_}
 use mathlib.Core.List.{List}
-use Rattle.text.specs.Names.{Named}
+use Rattle.names.specs.Names.{Named}
 use Rattle.expression.specs.Tree.{Expr, pieces}
 use Rattle.expression.specs.Grammar.{Destination, toRegister, toPart, toMemory, nowhere}
 

@@ -3,9 +3,9 @@
 use Prim.Native.Nat.{ℕ, _+_}
 use mathlib.Core.Bool.{Bool, true, false, _&&_, _||_}
 use mathlib.Core.List.{List, [], _∷_}
-use Rattle.text.specs.Bytes.{same}
-use Rattle.text.specs.Fields as text
-use Rattle.text.specs.Fields.{field}
+use Rattle.characters.specs.Characters.{same}
+use Rattle.fields.specs.Fields as text
+use Rattle.fields.specs.Fields.{field}
 use Rattle.declaration.specs.declared.targets.Target.{Target}
 use Rattle.declaration.specs.declared.targets.Target.the-variants.{Passes, Missing}
 use Rattle.declaration.specs.Lines.{doWord, goWord, atWord}

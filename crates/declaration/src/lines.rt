@@ -1,19 +1,16 @@
 // The lines that declare something: `reg` and `at`.
 use crate::faults::Fault;
 use crate::limits;
-use text::constants;
-use text::constants::Number;
-use text::fields;
-use text::names;
-use text::names::Dictionary;
+use constants::Number;
+use names::Dictionary;
 use token::operators;
 ghost use mathlib.Core.Path.{_≡_};
 ghost use mathlib.Core.Bool.{true};
 ghost use Prim.Native.Nat.{_+_, _≤_};
 ghost use lib.ListN.{length, take, drop};
-ghost use Rattle.text.specs.Bytes.{same};
-ghost use Rattle.text.specs.Fields.{field};
-ghost use Rattle.text.specs.Names.{entries};
+ghost use Rattle.characters.specs.Characters.{same};
+ghost use Rattle.fields.specs.Fields.{field};
+ghost use Rattle.names.specs.Names.{entries};
 ghost use Rattle.declaration.specs.declared.lines.Status.the-variants.{Goes, Refused};
 ghost use Rattle.declaration.specs.Limits.{mostBytes};
 ghost use Rattle.declaration.specs.Lines.{regWord, atWord, among, widthOf, isWidth, isNewName, addRegister, regLine, isNewLabel, addLabel, atLine};

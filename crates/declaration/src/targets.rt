@@ -1,11 +1,9 @@
 // Where a `go` leads.
-use text::bytes;
-use text::fields;
-use text::fields::LINE_FEED;
+use fields::LINE_FEED;
 ghost use mathlib.Core.Path.{_≡_};
 ghost use Prim.Native.Nat.{_≤_};
 ghost use lib.ListN.{length};
-ghost use Rattle.text.specs.Fields.{lines};
+ghost use Rattle.fields.specs.Fields.{lines};
 ghost use Rattle.declaration.specs.Limits.{mostBytes};
 ghost use Rattle.declaration.specs.Targets.{isAt, isRow, passes as Targets·passes};
 
@@ -19,8 +17,8 @@ pub enum Target {
 fn is_at(line: &[u8], label: &[u8]) -> bool
     ensures { λ r. ⌜ r ≡ isAt (now (label .entry)) (now (line .entry)) ⌝ }
 {
-    bytes::is_same(fields::field_of(line, 0), b"at")
-        & bytes::is_same(fields::field_of(line, 1), label)
+    characters::is_same(fields::field_of(line, 0), b"at")
+        & characters::is_same(fields::field_of(line, 1), label)
 }
 
 // Whether a line is a row.
@@ -28,7 +26,7 @@ fn is_row(line: &[u8]) -> bool
     ensures { λ r. ⌜ r ≡ isRow (now (line .entry)) ⌝ }
 {
     let first = fields::field_of(line, 0);
-    bytes::is_same(first, b"do") | bytes::is_same(first, b"go")
+    characters::is_same(first, b"do") | characters::is_same(first, b"go")
 }
 
 // The rows down to the line of a label, among the lines of what stands below.

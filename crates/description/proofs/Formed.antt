@@ -9,13 +9,13 @@ use lib.Dec.{eqb, leb, ltb}
 use lib.ListN.{length, length-append}
 use borrow.Author.Tests.{ltb-true, leb-true}
 use Rattle.word.specs.Word.{widest}
-use Rattle.text.specs.Bytes.{same}
-use Rattle.text.specs.Fields.{Line, lineFeed, until, before, after, lines, field, hasFields}
-use Rattle.text.specs.Names.{Named, isName}
-use Rattle.text.specs.Constants.{decimalAt}
-use Rattle.text.proofs.Cases.{by-case}
-use Rattle.text.proofs.Strings.{equal}
-use Rattle.text.proofs.Tests.{and-left, and-right}
+use Rattle.characters.specs.Characters.{same}
+use Rattle.fields.specs.Fields.{Line, lineFeed, until, before, after, lines, field, hasFields}
+use Rattle.names.specs.Names.{Named, isName}
+use Rattle.constants.specs.Constants.{decimalAt}
+use Rattle.characters.proofs.Cases.{by-case}
+use Rattle.characters.proofs.Strings.{equal}
+use Rattle.characters.proofs.Tests.{and-left, and-right}
 use Rattle.expression.specs.Grammar.{Reading, read, outside, expression, Destination, destination}
 use Rattle.expression.specs.Formed.{Registers, Accepted, Reads, FormedDestination}
 use Rattle.expression.proofs.Formed.{expression-formed, destination-formed}

@@ -9,15 +9,15 @@ use lib.Dec.{eqb, leb, ltb}
 use lib.ListN.{length, getD, take, drop, length-drop, drop-of-length-le}
 use lib.Seq.{drop-drop}
 use borrow.Author.Tests.{ltb-true, leb-true, leb-false}
-use Rattle.text.specs.Bytes.{run, same}
-use Rattle.text.specs.declared.bytes.Class.the-variants.{Other, Printable}
-use Rattle.text.specs.Fields as fields
-use Rattle.text.specs.Fields.{lineFeed, until, before, after, lines, field, firstLine}
-use Rattle.text.specs.Names.{entriesFrom, entries, find}
-use Rattle.text.specs.declared.names.Dictionary.{Dictionary}
-use Rattle.text.proofs.Tests.{by-test, and-left, and-right}
-use Rattle.text.proofs.Runs.{run-le}
-use Rattle.text.proofs.Lines.{before-length, first-line, no-line}
+use Rattle.characters.specs.Characters.{run, same}
+use Rattle.characters.specs.declared.Class.the-variants.{Other, Printable}
+use Rattle.fields.specs.Fields as fields
+use Rattle.fields.specs.Fields.{lineFeed, until, before, after, lines, field, firstLine}
+use Rattle.names.specs.Names.{entriesFrom, entries, find}
+use Rattle.names.specs.declared.Dictionary.{Dictionary}
+use Rattle.characters.proofs.Tests.{by-test, and-left, and-right}
+use Rattle.characters.proofs.Runs.{run-le}
+use Rattle.fields.proofs.Lines.{before-length, first-line, no-line}
 use Rattle.token.specs.References.{widthIn}
 use Rattle.token.proofs.Tokens.{entries-length, width-is}
 use Rattle.declaration.specs.declared.faults.Fault.{Fault}

@@ -5,11 +5,11 @@ use mathlib.Core.Bool.{Bool, true, false, _&&_}
 use mathlib.Core.List.{List, [], _∷_}
 use lib.Dec.{eqb, leb, ltb}
 use lib.ListN.{length}
-use Rattle.text.specs.Bytes.{same, run}
-use Rattle.text.specs.Fields as text
-use Rattle.text.specs.Fields.{lineFeed, until, before, after, lines, field}
-use Rattle.text.specs.Names.{Named, find}
-use Rattle.text.specs.declared.bytes.Class.the-variants.{Printable}
+use Rattle.characters.specs.Characters.{same, run}
+use Rattle.fields.specs.Fields as text
+use Rattle.fields.specs.Fields.{lineFeed, until, before, after, lines, field}
+use Rattle.names.specs.Names.{Named, find}
+use Rattle.characters.specs.declared.Class.the-variants.{Printable}
 use Rattle.token.specs.References.{widthIn}
 use Rattle.declaration.specs.declared.faults.Fault.{Fault}
 use Rattle.declaration.specs.declared.faults.Fault.the-variants.{Size, Header, Line, Label, Run}

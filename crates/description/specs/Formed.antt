@@ -6,9 +6,9 @@ use mathlib.Core.Bool.{true, false}
 use mathlib.Core.List.{List, [], _∷_}
 use Prim.Native.Nat.{ℕ, suc, _+_, _≤_}
 use lib.ListN.{length}
-use Rattle.text.specs.Bytes.{same}
-use Rattle.text.specs.Fields.{Line, field}
-use Rattle.text.specs.Names.{Named}
+use Rattle.characters.specs.Characters.{same}
+use Rattle.fields.specs.Fields.{Line, field}
+use Rattle.names.specs.Names.{Named}
 use Rattle.expression.specs.Formed.{Registers, Accepted, FormedDestination}
 use Rattle.declaration.specs.Rows.{Row, does, goes, rowPieces, Description}
 use Rattle.declaration.specs.Limits.{mostRegisters, mostRows, mostLabels, allPieces}

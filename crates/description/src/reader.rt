@@ -1,25 +1,22 @@
 // The whole text: line by line, then what is looked for after all lines.
 use crate::limits;
+use characters::Class;
 use declaration::faults::Fault;
 use declaration::lines;
 use declaration::lines::Progress;
 use declaration::lines::Status;
 use declaration::lines::Step;
 use expression::code::CODE_PLACES;
+use fields::LINE_FEED;
+use names::Dictionary;
 use row::limits::TABLE_CELLS;
 use row::rows;
-use text::bytes;
-use text::bytes::Class;
-use text::fields;
-use text::fields::LINE_FEED;
-use text::names;
-use text::names::Dictionary;
 ghost use mathlib.Core.Path.{_≡_};
 ghost use Prim.Native.Nat.{_≤_};
 ghost use lib.Dec.{ltb};
 ghost use lib.ListN.{length};
-ghost use Rattle.text.specs.Fields.{lineFeed, until, before, after, lines, firstLine};
-ghost use Rattle.text.specs.Names.{entries};
+ghost use Rattle.fields.specs.Fields.{lineFeed, until, before, after, lines, firstLine};
+ghost use Rattle.names.specs.Names.{entries};
 ghost use Rattle.declaration.specs.Limits.{mostBytes};
 ghost use Rattle.declaration.specs.Stored.{Within};
 ghost use Rattle.row.specs.Stored.{Takes};
@@ -68,7 +65,7 @@ fn is_fit(line: &[u8], rest: &[u8]) -> bool
     requires { ⌜ now line ≡ before lineFeed (now rest) ⌝ }
     ensures { λ r. ⌜ r ≡ isFit (record { bytes = now (line .entry); ended = ltb (until lineFeed (now (rest .entry))) (length (now (rest .entry))) }) ⌝ }
 {
-    let end = bytes::run_end(line, 0, Class::Printable);
+    let end = characters::run_end(line, 0, Class::Printable);
     (line.len() < rest.len()) & (line.len() <= limits::LINE_BYTES) & (end == line.len())
 }
 
@@ -90,17 +87,17 @@ fn read_line(
         return lines::refused(q, Fault::Line);
     }
     let word = fields::field_of(line, 0);
-    if bytes::is_same(word, b"reg") {
+    if characters::is_same(word, b"reg") {
         return lines::reg_line(text, q, text.len() - rest.len(), line);
     }
-    if bytes::is_same(word, b"do") {
+    if characters::is_same(word, b"do") {
         return rows::do_line(text, q, line, code, table);
     }
-    if bytes::is_same(word, b"go") {
+    if characters::is_same(word, b"go") {
         let below = fields::part_after(rest, LINE_FEED);
         return rows::go_line(text, q, n, line, below, code, table);
     }
-    if bytes::is_same(word, b"at") {
+    if characters::is_same(word, b"at") {
         return lines::at_line(text, q, text.len() - rest.len(), line);
     }
     lines::refused(q, Fault::Line)
@@ -172,7 +169,7 @@ pub fn read(text: &[u8], code: &mut [u16; CODE_PLACES], table: &mut [u16; TABLE_
         return turned_down(Fault::Size, 0);
     }
     let header = fields::part_before(text, LINE_FEED);
-    if !bytes::is_same(header, b"rows\t1") {
+    if !characters::is_same(header, b"rows\t1") {
         return turned_down(Fault::Header, 1);
     }
     if header.len() < text.len() {

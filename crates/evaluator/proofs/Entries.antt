@@ -23,9 +23,9 @@ use Rattle.state.specs.declared.Refusal.the-variants.{Register, RowList}
 use Rattle.state.specs.declared.Verdict.{Verdict}
 use Rattle.state.specs.declared.Verdict.the-variants.{Fit, Unfit}
 use Rattle.state.proofs.Accepted.{memory-acceptable, registers-fitting, both-fit}
-use Rattle.text.specs.Names.{Named, entries, find}
-use Rattle.text.specs.declared.names.Dictionary.{Dictionary}
-use Rattle.text.proofs.Tests.{by-test, and-left}
+use Rattle.names.specs.Names.{Named, entries, find}
+use Rattle.names.specs.declared.Dictionary.{Dictionary}
+use Rattle.characters.proofs.Tests.{by-test, and-left}
 use Rattle.token.specs.References.{widthIn}
 use Rattle.token.proofs.Tokens.{entries-length, width-is}
 use Rattle.expression.proofs.Formed.{register-width}

@@ -16,8 +16,8 @@ use Rattle.state.specs.Refusals.{orElse}
 use Rattle.state.specs.declared.Refusal.{Refusal}
 use Rattle.state.specs.declared.Verdict.{Verdict}
 use Rattle.state.specs.declared.Verdict.the-variants.{Fit, Unfit}
-use Rattle.text.specs.declared.names.Dictionary.{Dictionary}
-use Rattle.text.proofs.Tests.{by-test}
+use Rattle.names.specs.declared.Dictionary.{Dictionary}
+use Rattle.characters.proofs.Tests.{by-test}
 use Rattle.evaluator.specs.Stored.{widthAt, widthsFrom, padded}
 
 from-length : (d : Dictionary) (n k : ℕ) → length (widthsFrom d k n) ≡ n

@@ -8,7 +8,7 @@ use native.Mathlib.Omega.{arith}
 use lib.Dec.{eqb, ltb}
 use lib.ListN.{getD, set}
 use Rattle.word.specs.Choice.{pick}
-use Rattle.text.proofs.Tests.{by-test}
+use Rattle.characters.proofs.Tests.{by-test}
 use Rattle.evaluator.specs.Value.{State}
 use Rattle.evaluator.specs.Words.{wordValue, pops, Stack, stackPlaces, baseOf, advance, executed}
 

@@ -1,8 +1,7 @@
 // What is tried of a state before its run: 11 to 15.
 use crate::Registers;
+use names::Dictionary;
 use state::Verdict;
-use text::names;
-use text::names::Dictionary;
 ghost use mathlib.Core.Path.{_≡_};
 ghost use Prim.Native.Nat.{ℕ, _≤_};
 ghost use lib.ListN.{getD};

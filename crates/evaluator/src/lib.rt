@@ -13,7 +13,6 @@ use row::limits::TABLE_CELLS;
 use state::Reason;
 use state::Refusal;
 use state::Verdict;
-use text::names;
 ghost use mathlib.Core.Path.{_≡_};
 ghost use Rattle.evaluator.specs.Evaluate.{report, evaluate as evaluation};
 

@@ -6,10 +6,10 @@ use mathlib.Core.List.{List, [], _∷_}
 use Prim.Native.Nat.{ℕ, zero, suc, _+_, _≤_}
 use native.Mathlib.Omega.{arith}
 use lib.Dec.{eqb, ltb}
-use Rattle.text.specs.Bytes.{isLetter, runEnd, same}
-use Rattle.text.specs.Constants.{decimalAt, constantAt}
-use Rattle.text.specs.Names.{Named}
-use Rattle.text.specs.declared.bytes.Class.the-variants.{Word}
+use Rattle.characters.specs.Characters.{isLetter, runEnd, same}
+use Rattle.constants.specs.Constants.{decimalAt, constantAt}
+use Rattle.names.specs.Names.{Named}
+use Rattle.characters.specs.declared.Class.the-variants.{Word}
 use Rattle.expression.specs.declared.code.Cursor.{Cursor}
 use Rattle.expression.specs.declared.code.Part.{Part}
 use Rattle.expression.specs.declared.code.Part.the-variants.{Found, Fault}

@@ -7,10 +7,10 @@ use Prim.Native.Nat.{ℕ, _+_, _≤_, _<_}
 use lib.Dec.{eqb, leb}
 use lib.ListN.{length, getD}
 use borrow.Author.Tests.{eq-eqb, ne-eqb, eqb-true, eqb-false}
-use Rattle.text.specs.Bytes.{runEnd, same}
-use Rattle.text.specs.Names.{Named}
-use Rattle.text.specs.declared.bytes.Class.the-variants as class
-use Rattle.text.proofs.Tests.{by-test}
+use Rattle.characters.specs.Characters.{runEnd, same}
+use Rattle.names.specs.Names.{Named}
+use Rattle.characters.specs.declared.Class.the-variants as class
+use Rattle.characters.proofs.Tests.{by-test}
 use Rattle.token.specs.declared.references.Reference.{Reference}
 use Rattle.token.specs.declared.references.Reference.the-variants.{Whole, Part, Unknown}
 use Rattle.token.specs.Operators.{weakest}

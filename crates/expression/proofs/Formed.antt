@@ -9,17 +9,17 @@ use lib.Dec.{eqb, leb, ltb}
 use lib.ListN.{length}
 use borrow.Author.Tests.{ltb-true, ltb-false, leb-true, eqb-true, ne-eqb}
 use Rattle.word.specs.Word.{widest}
-use Rattle.text.specs.Bytes.{isLetter, runEnd, same}
-use Rattle.text.specs.Constants.{constantAt, decimalAt}
-use Rattle.text.specs.Names.{Named}
-use Rattle.text.specs.declared.bytes.Class.the-variants as class
-use Rattle.text.specs.declared.constants.Number.{Number}
-use Rattle.text.specs.declared.constants.Number.the-variants.{Plain, Unread}
-use Rattle.text.specs.declared.constants.Constant.{Constant}
-use Rattle.text.specs.declared.constants.Constant.the-variants.{Found, Missing}
-use Rattle.text.proofs.Cases.{by-case}
-use Rattle.text.proofs.Tests.{by-test, and-right}
-use Rattle.text.proofs.Widths.{Fitting, constant-fits}
+use Rattle.characters.specs.Characters.{isLetter, runEnd, same}
+use Rattle.constants.specs.Constants.{constantAt, decimalAt}
+use Rattle.names.specs.Names.{Named}
+use Rattle.characters.specs.declared.Class.the-variants as class
+use Rattle.constants.specs.declared.Number.{Number}
+use Rattle.constants.specs.declared.Number.the-variants.{Plain, Unread}
+use Rattle.constants.specs.declared.Constant.{Constant}
+use Rattle.constants.specs.declared.Constant.the-variants.{Found, Missing}
+use Rattle.characters.proofs.Cases.{by-case}
+use Rattle.characters.proofs.Tests.{by-test, and-right}
+use Rattle.constants.proofs.Widths.{Fitting, constant-fits}
 use Rattle.token.specs.declared.operators.Entry.{Entry}
 use Rattle.token.specs.declared.operators.Widths.{Widths}
 use Rattle.token.specs.declared.operators.Widths.the-variants.{Left, Sum, Carry, One, Wider}

@@ -10,10 +10,10 @@ use lib.ListN.{length}
 use lib.Seq.{sets}
 use borrow.Author.Tests.{le-leb, lt-leb}
 use Rattle.word.specs.Word.{widest}
-use Rattle.text.specs.Constants.{decimalAt}
-use Rattle.text.specs.declared.constants.Number.the-variants.{Plain, Unread}
-use Rattle.text.specs.declared.bytes.Class.the-variants.{Space}
-use Rattle.text.proofs.Runs.{onward}
+use Rattle.constants.specs.Constants.{decimalAt}
+use Rattle.constants.specs.declared.Number.the-variants.{Plain, Unread}
+use Rattle.characters.specs.declared.Class.the-variants.{Space}
+use Rattle.characters.proofs.Runs.{onward}
 use Rattle.expression.specs.declared.code.Cursor.{Cursor}
 use Rattle.expression.specs.declared.code.Part.the-variants.{Found, Fault}
 use Rattle.token.specs.Operators.{rowOf, entryIn, widthBy}

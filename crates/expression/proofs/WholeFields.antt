@@ -8,8 +8,8 @@ use native.Mathlib.Omega.{arith}
 use lib.Dec.{eqb, leb}
 use lib.ListN.{length}
 use borrow.Author.Tests.{le-leb, lt-leb, leb-true, leb-false}
-use Rattle.text.specs.Names.{Named}
-use Rattle.text.proofs.Tests.{by-test}
+use Rattle.names.specs.Names.{Named}
+use Rattle.characters.proofs.Tests.{by-test}
 use Rattle.expression.specs.declared.code.Cursor.{Cursor}
 use Rattle.expression.specs.declared.code.Part.{Part}
 use Rattle.expression.specs.declared.code.Part.the-variants.{Found, Fault}

@@ -8,7 +8,7 @@ use Prim.Native.Nat.{ℕ, _^_, _≤_, _<_}
 use lib.Dec.{eqb}
 use lib.ListN.{length}
 use Rattle.word.specs.Word.{widest}
-use Rattle.text.specs.Names.{Named}
+use Rattle.names.specs.Names.{Named}
 use Rattle.token.specs.declared.operators.Operator.{Operator}
 use Rattle.token.specs.Operators.{rowOf, entryIn, strongest, rotations}
 use Rattle.token.specs.References.{widthIn}

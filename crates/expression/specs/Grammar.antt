@@ -9,14 +9,14 @@ use mathlib.Core.List.{List, [], _∷_}
 use lib.Dec.{eqb, leb, ltb}
 use lib.ListN.{length, getD}
 use Rattle.word.specs.Word.{widest}
-use Rattle.text.specs.Bytes.{isLetter, runEnd, same}
-use Rattle.text.specs.Constants.{decimalAt, constantAt}
-use Rattle.text.specs.Names.{Named}
-use Rattle.text.specs.declared.bytes.Class.the-variants.{Word}
-use Rattle.text.specs.declared.constants.Number.{Number}
-use Rattle.text.specs.declared.constants.Number.the-variants.{Plain, Unread}
-use Rattle.text.specs.declared.constants.Constant.{Constant}
-use Rattle.text.specs.declared.constants.Constant.the-variants.{Found, Missing}
+use Rattle.characters.specs.Characters.{isLetter, runEnd, same}
+use Rattle.constants.specs.Constants.{decimalAt, constantAt}
+use Rattle.names.specs.Names.{Named}
+use Rattle.characters.specs.declared.Class.the-variants.{Word}
+use Rattle.constants.specs.declared.Number.{Number}
+use Rattle.constants.specs.declared.Number.the-variants.{Plain, Unread}
+use Rattle.constants.specs.declared.Constant.{Constant}
+use Rattle.constants.specs.declared.Constant.the-variants.{Found, Missing}
 use Rattle.token.specs.declared.references.Reference.{Reference}
 use Rattle.token.specs.declared.references.Reference.the-variants.{Whole, Part, Unknown}
 use Rattle.token.specs.Operators.{entryIn, weakest, strongest, rotations}

@@ -1,9 +1,7 @@
 // The table of words, and the parts of an expression that are read without going deeper: each puts its word behind those of its sides.
-use text::bytes;
-use text::constants;
-use text::constants::Constant;
-use text::constants::Number;
-use text::names::Dictionary;
+use constants::Constant;
+use constants::Number;
+use names::Dictionary;
 use token::operators;
 use token::references;
 use token::references::Reference;
@@ -12,10 +10,10 @@ ghost use mathlib.Core.List.{[], _∷_};
 ghost use Prim.Native.Nat.{_+_, _*_, _≤_, _<_};
 ghost use lib.ListN.{length, getD};
 ghost use mathlib.Core.Bool.{true};
-ghost use Rattle.text.specs.Bytes.{isWord};
+ghost use Rattle.characters.specs.Characters.{isWord};
 ghost use lib.Seq.{sets};
-ghost use Rattle.text.specs.Names.{entries};
-ghost use Rattle.text.specs.Constants.{constantAt, decimalAt};
+ghost use Rattle.names.specs.Names.{entries, places};
+ghost use Rattle.constants.specs.Constants.{constantAt, decimalAt};
 ghost use Rattle.token.specs.References.{skip, referenceAt};
 ghost use Rattle.expression.specs.Grammar.{ofConstant, ofReference, closed, turned, joined};
 ghost use Rattle.expression.specs.Met.{Single, Room, Leaf, Made, Behind, Combined, Turned, capacity};
@@ -106,7 +104,7 @@ pub(crate) fn reference_part(
     code: &mut [u16; CODE_PLACES],
     c: Cursor,
 ) -> Part
-    requires { ⌜ Room (now s) c 0 ⌝ ∗ ⌜ d .count ≤ 32 ⌝ ∗ ⌜ isWord (getD (now s) (c .place) 0) ≡ true ⌝ }
+    requires { ⌜ Room (now s) c 0 ⌝ ∗ ⌜ d .count ≤ places ⌝ ∗ ⌜ isWord (getD (now s) (c .place) 0) ≡ true ⌝ }
     ensures { λ r. ⌜ Leaf (ofReference (referenceAt (entries (now (text .entry)) d) (now (s .entry)) (c .place))) (now (s .entry)) (c .place + 1)
         (c .words + 1) (c .pieces + 1) r c (now (code .entry)) (now (code .exit)) ⌝ }
 {
@@ -142,7 +140,7 @@ pub(crate) fn closed_part(
     ensures { λ r. ⌜ Made (closed (now (s .entry)) close) (now (s .entry)) (c .place + 1) (c .words + 1) (c .pieces + 1) c width r (now (code .entry)) (now (code .exit)) ⌝ }
 {
     let end = references::skip_spaces(s, c.place);
-    if bytes::byte(s, end) != close {
+    if characters::byte(s, end) != close {
         return Part::Fault;
     }
     if close == b']' {

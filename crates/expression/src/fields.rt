@@ -3,15 +3,14 @@ use crate::code::CODE_PLACES;
 use crate::code::Cursor;
 use crate::code::Part;
 use crate::grammar;
-use text::bytes;
-use text::bytes::Class;
-use text::names::Dictionary;
+use characters::Class;
+use names::Dictionary;
 use token::references;
 use token::references::Reference;
 ghost use mathlib.Core.Path.{_≡_};
 ghost use Prim.Native.Nat.{_+_, _≤_};
 ghost use lib.ListN.{length};
-ghost use Rattle.text.specs.Names.{entries};
+ghost use Rattle.names.specs.Names.{entries, places};
 ghost use Rattle.expression.specs.Grammar.{trimmed, expression, destination, memoryAt, ofName};
 ghost use Rattle.expression.specs.Met.{Leaf, Whole, Aims, Points, Addressed, capacity};
 
@@ -42,7 +41,7 @@ fn is_trimmed(s: &[u8]) -> bool
     if n == 0 {
         return true;
     }
-    (bytes::byte(s, 0) != 32) & (bytes::byte(s, n - 1) != 32)
+    (characters::byte(s, 0) != 32) & (characters::byte(s, n - 1) != 32)
 }
 
 // What was read, if it ends with the field and has no more than 32 pieces.
@@ -66,7 +65,7 @@ pub fn read_expression(
     words: usize,
     pieces: usize,
 ) -> Part
-    requires { ⌜ d .count ≤ 32 ⌝ ∗ ⌜ words + length (now s) ≤ capacity ⌝ ∗ ⌜ pieces + length (now s) ≤ capacity ⌝ }
+    requires { ⌜ d .count ≤ places ⌝ ∗ ⌜ words + length (now s) ≤ capacity ⌝ ∗ ⌜ pieces + length (now s) ≤ capacity ⌝ }
     ensures { λ r. ⌜ Leaf (expression (entries (now (text .entry)) d) (now (s .entry))) (now (s .entry)) 1 (words + 1) (pieces + 1)
         r (record { place = 0; words = words; pieces = pieces }) (now (code .entry)) (now (code .exit)) ⌝ }
 {
@@ -132,7 +131,7 @@ fn addressed_place(s: &[u8], end: Cursor, from: Cursor) -> Place
     ensures { λ r. ⌜ Addressed (now (s .entry)) end r from ⌝ }
 {
     let close = references::skip_spaces(s, end.place);
-    if (bytes::byte(s, close) == b']')
+    if (characters::byte(s, close) == b']')
         & (close + 1 == s.len())
         & (end.pieces <= from.pieces + MOST_PIECES)
     {
@@ -152,12 +151,12 @@ fn memory_place(
     pieces: usize,
     end: usize,
 ) -> Place
-    requires { ⌜ d .count ≤ 32 ⌝ ∗ ⌜ words + length (now s) ≤ capacity ⌝ ∗ ⌜ pieces + length (now s) ≤ capacity ⌝ ∗ ⌜ end ≤ length (now s) ⌝ }
+    requires { ⌜ d .count ≤ places ⌝ ∗ ⌜ words + length (now s) ≤ capacity ⌝ ∗ ⌜ pieces + length (now s) ≤ capacity ⌝ ∗ ⌜ end ≤ length (now s) ⌝ }
     ensures { λ r. ⌜ Aims r (memoryAt (entries (now (text .entry)) d) (now (s .entry)) end) (now (s .entry))
         (record { place = 0; words = words; pieces = pieces }) (now (code .entry)) (now (code .exit)) ⌝ }
 {
     let bracket = references::skip_spaces(s, end);
-    if bytes::byte(s, bracket) == b'[' {
+    if characters::byte(s, bracket) == b'[' {
         let start = Cursor {
             place: bracket + 1,
             words: words,
@@ -181,13 +180,13 @@ pub fn read_destination(
     words: usize,
     pieces: usize,
 ) -> Place
-    requires { ⌜ d .count ≤ 32 ⌝ ∗ ⌜ words + length (now s) ≤ capacity ⌝ ∗ ⌜ pieces + length (now s) ≤ capacity ⌝ }
+    requires { ⌜ d .count ≤ places ⌝ ∗ ⌜ words + length (now s) ≤ capacity ⌝ ∗ ⌜ pieces + length (now s) ≤ capacity ⌝ }
     ensures { λ r. ⌜ Aims r (destination (entries (now (text .entry)) d) (now (s .entry))) (now (s .entry))
         (record { place = 0; words = words; pieces = pieces }) (now (code .entry)) (now (code .exit)) ⌝ }
 {
     if is_trimmed(s) {
-        let end = bytes::run_end(s, 0, Class::Word);
-        if bytes::is_same(bytes::part(s, 0, end), b"M") {
+        let end = characters::run_end(s, 0, Class::Word);
+        if characters::is_same(characters::part(s, 0, end), b"M") {
             return memory_place(text, d, s, code, words, pieces, end);
         }
         named_place(s, references::reference_at(text, d, s, 0))

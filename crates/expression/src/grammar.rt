@@ -3,17 +3,16 @@ use crate::code;
 use crate::code::CODE_PLACES;
 use crate::code::Cursor;
 use crate::code::Part;
-use text::bytes;
-use text::bytes::Class;
-use text::names::Dictionary;
+use characters::Class;
+use names::Dictionary;
 use token::operators;
 use token::references;
 ghost use mathlib.Core.Path.{_≡_};
 ghost use mathlib.Core.Bool.{true};
 ghost use Prim.Native.Nat.{_+_, _-_, _≤_, _<_};
 ghost use lib.ListN.{getD};
-ghost use Rattle.text.specs.Bytes.{isLetter};
-ghost use Rattle.text.specs.Names.{entries};
+ghost use Rattle.characters.specs.Characters.{isLetter};
+ghost use Rattle.names.specs.Names.{entries, places};
 ghost use Rattle.token.specs.Operators.{strongest, entryIn};
 ghost use Rattle.token.specs.References.{operatorAt};
 ghost use Rattle.expression.specs.Grammar.{read, level, more, operation, operand, worded, negated, enclosed};
@@ -32,7 +31,7 @@ pub(crate) fn read_level(
     strength: u8,
     c: Cursor,
 ) -> Part
-    requires { ⌜ Room (now s) c 0 ⌝ ∗ ⌜ d .count ≤ 32 ⌝ ∗ ⌜ 1 ≤ strength ⌝ ∗ ⌜ strength ≤ strongest ⌝ }
+    requires { ⌜ Room (now s) c 0 ⌝ ∗ ⌜ d .count ≤ places ⌝ ∗ ⌜ 1 ≤ strength ⌝ ∗ ⌜ strength ≤ strongest ⌝ }
     ensures { λ r. ⌜ Answer (calls (now (s .entry)) (c .place) (9 - strength))
         (λ f. level f (entries (now (text .entry)) d) (now (s .entry)) depth strength (c .place))
         (now (s .entry)) (c .place + 1) (c .words + 1) (c .pieces + 1) r c (now (code .entry)) (now (code .exit)) ⌝ }
@@ -58,7 +57,7 @@ fn read_more(
     left: Cursor,
     width: u16,
 ) -> Part
-    requires { ⌜ Room (now s) left 0 ⌝ ∗ ⌜ d .count ≤ 32 ⌝ ∗ ⌜ 1 ≤ strength ⌝ ∗ ⌜ strength < strongest ⌝ ∗ ⌜ width ≤ 16 ⌝ }
+    requires { ⌜ Room (now s) left 0 ⌝ ∗ ⌜ d .count ≤ places ⌝ ∗ ⌜ 1 ≤ strength ⌝ ∗ ⌜ strength < strongest ⌝ ∗ ⌜ width ≤ 16 ⌝ }
     ensures { λ r. ⌜ Behind (calls (now (s .entry)) (left .place) 9)
         (λ f l p. more f (entries (now (text .entry)) d) (now (s .entry)) depth strength (read l p))
         (now (s .entry)) (left .place) (left .words) (left .pieces) left width r (now (code .entry)) (now (code .exit)) ⌝ }
@@ -84,7 +83,7 @@ fn read_operation(
     left: Cursor,
     width: u16,
 ) -> Part
-    requires { ⌜ Room (now s) left 0 ⌝ ∗ ⌜ d .count ≤ 32 ⌝ ∗ ⌜ (1 ≤ strength) × (strength < strongest) ⌝ ∗ ⌜ width ≤ 16 ⌝
+    requires { ⌜ Room (now s) left 0 ⌝ ∗ ⌜ d .count ≤ places ⌝ ∗ ⌜ (1 ≤ strength) × (strength < strongest) ⌝ ∗ ⌜ width ≤ 16 ⌝
         ∗ ⌜ entryIn (operatorAt (now s) (left .place)) .strength ≡ strength ⌝ }
     ensures { λ r. ⌜ Behind (calls (now (s .entry)) (left .place) 8)
         (λ f l p. operation f (entries (now (text .entry)) d) (now (s .entry)) depth strength l p)
@@ -115,13 +114,13 @@ fn read_operand(
     depth: usize,
     c: Cursor,
 ) -> Part
-    requires { ⌜ Room (now s) c 0 ⌝ ∗ ⌜ d .count ≤ 32 ⌝ }
+    requires { ⌜ Room (now s) c 0 ⌝ ∗ ⌜ d .count ≤ places ⌝ }
     ensures { λ r. ⌜ Answer (calls (now (s .entry)) (c .place) 1)
         (λ f. operand f (entries (now (text .entry)) d) (now (s .entry)) depth (c .place))
         (now (s .entry)) (c .place + 1) (c .words + 1) (c .pieces + 1) r c (now (code .entry)) (now (code .exit)) ⌝ }
 {
     let start = references::skip_spaces(s, c.place);
-    let first = bytes::byte(s, start);
+    let first = characters::byte(s, start);
     if first == b'(' {
         let inner = Cursor {
             place: start + 1,
@@ -135,7 +134,7 @@ fn read_operand(
         words: c.words,
         pieces: c.pieces,
     };
-    if bytes::is_letter(first) {
+    if characters::is_letter(first) {
         read_worded(text, d, s, code, depth, here)
     } else {
         code::constant_part(s, code, here)
@@ -151,15 +150,15 @@ fn read_worded(
     depth: usize,
     c: Cursor,
 ) -> Part
-    requires { ⌜ Room (now s) c 0 ⌝ ∗ ⌜ d .count ≤ 32 ⌝ ∗ ⌜ isLetter (getD (now s) (c .place) 0) ≡ true ⌝ }
+    requires { ⌜ Room (now s) c 0 ⌝ ∗ ⌜ d .count ≤ places ⌝ ∗ ⌜ isLetter (getD (now s) (c .place) 0) ≡ true ⌝ }
     ensures { λ r. ⌜ Answer (calls (now (s .entry)) (c .place) 0)
         (λ f. worded f (entries (now (text .entry)) d) (now (s .entry)) depth (c .place))
         (now (s .entry)) (c .place + 1) (c .words + 1) (c .pieces + 1) r c (now (code .entry)) (now (code .exit)) ⌝ }
 {
     let start = c.place;
-    let end = bytes::run_end(s, start, Class::Word);
-    let token = bytes::part(s, start, end - start);
-    if bytes::is_same(token, b"Not") {
+    let end = characters::run_end(s, start, Class::Word);
+    let token = characters::part(s, start, end - start);
+    if characters::is_same(token, b"Not") {
         let operand = Cursor {
             place: end,
             words: c.words,
@@ -167,9 +166,9 @@ fn read_worded(
         };
         return read_negated(text, d, s, code, depth, operand);
     }
-    if bytes::is_same(token, b"M") {
+    if characters::is_same(token, b"M") {
         let open = references::skip_spaces(s, end);
-        if bytes::byte(s, open) != b'[' {
+        if characters::byte(s, open) != b'[' {
             return Part::Fault;
         }
         let address = Cursor {
@@ -191,7 +190,7 @@ fn read_negated(
     depth: usize,
     c: Cursor,
 ) -> Part
-    requires { ⌜ Room (now s) c 1 ⌝ ∗ ⌜ d .count ≤ 32 ⌝ }
+    requires { ⌜ Room (now s) c 1 ⌝ ∗ ⌜ d .count ≤ places ⌝ }
     ensures { λ r. ⌜ Answer (calls (now (s .entry)) (c .place) 3)
         (λ f. negated f (entries (now (text .entry)) d) (now (s .entry)) depth (c .place))
         (now (s .entry)) (c .place + 1) (c .words + 2) (c .pieces + 2) r c (now (code .entry)) (now (code .exit)) ⌝ }
@@ -217,7 +216,7 @@ fn read_enclosed(
     close: u8,
     c: Cursor,
 ) -> Part
-    requires { ⌜ Room (now s) c 1 ⌝ ∗ ⌜ d .count ≤ 32 ⌝ ∗ ⌜ 0 < close ⌝ }
+    requires { ⌜ Room (now s) c 1 ⌝ ∗ ⌜ d .count ≤ places ⌝ ∗ ⌜ 0 < close ⌝ }
     ensures { λ r. ⌜ Answer (calls (now (s .entry)) (c .place) 9)
         (λ f. enclosed f (entries (now (text .entry)) d) (now (s .entry)) depth close (c .place))
         (now (s .entry)) (c .place + 1) (c .words + 2) (c .pieces + 2) r c (now (code .entry)) (now (code .exit)) ⌝ }

@@ -8,8 +8,8 @@ use native.Mathlib.Nat.{add-zero}
 use native.Mathlib.Omega.{arith}
 use lib.ListN.{length, length-append}
 use lib.Seq.{sets}
-use Rattle.text.specs.Fields.{field}
-use Rattle.text.specs.Names.{Named}
+use Rattle.fields.specs.Fields.{field}
+use Rattle.names.specs.Names.{Named}
 use Rattle.expression.specs.declared.code.Cursor.{Cursor}
 use Rattle.expression.specs.Tree.{Expr, pieces}
 use Rattle.expression.specs.Code.{codeOf}

@@ -10,9 +10,9 @@ use lib.ListN.{length}
 use lib.Seq.{sets}
 use borrow.Author.Tests.{ltb-true, leb-true}
 use Rattle.word.specs.Choice.{pick}
-use Rattle.text.specs.Fields.{field, hasFields, lines}
-use Rattle.text.specs.Names.{entries, isName}
-use Rattle.text.proofs.Tests.{by-test, and-left, and-right}
+use Rattle.fields.specs.Fields.{field, hasFields, lines}
+use Rattle.names.specs.Names.{entries, isName}
+use Rattle.characters.proofs.Tests.{by-test, and-left, and-right}
 use Rattle.expression.specs.declared.code.Cursor.{Cursor}
 use Rattle.expression.specs.declared.code.Part.the-variants.{Found}
 use Rattle.expression.specs.Tree.{Expr, pieces}

@@ -6,9 +6,9 @@ use mathlib.Core.Bool.{Bool, true, false, _&&_}
 use mathlib.Core.List.{List, [], _∷_, _++_}
 use lib.Dec.{eqb, leb, ltb}
 use lib.ListN.{length}
-use Rattle.text.specs.Fields as text
-use Rattle.text.specs.Fields.{field, hasFields}
-use Rattle.text.specs.Names.{isName}
+use Rattle.fields.specs.Fields as text
+use Rattle.fields.specs.Fields.{field, hasFields}
+use Rattle.names.specs.Names.{isName}
 use Rattle.expression.specs.Grammar.{Reading, read, outside, expression, Destination, toRegister, toPart, toMemory, nowhere, destination}
 use Rattle.declaration.specs.declared.faults.Fault.the-variants.{Line, Expression, Label, Limit}
 use Rattle.declaration.specs.declared.targets.Target.{Target}

@@ -8,8 +8,8 @@ use lib.Dec.{leb, ltb}
 use lib.ListN.{length}
 use lib.Seq.{sets}
 use Rattle.word.specs.Choice.{pick}
-use Rattle.text.specs.Fields.{field}
-use Rattle.text.specs.Names.{Named}
+use Rattle.fields.specs.Fields.{field}
+use Rattle.names.specs.Names.{Named}
 use Rattle.expression.specs.Tree.{Expr}
 use Rattle.expression.specs.Grammar.{read, Destination, expression, destination}
 use Rattle.expression.specs.Met.{Held}

@@ -8,14 +8,13 @@ use expression::code::Part;
 use expression::fields::Place;
 use expression::fields::read_destination;
 use expression::fields::read_expression;
-use text::fields;
-use text::names::Dictionary;
+use names::Dictionary;
 ghost use mathlib.Core.Path.{_≡_};
 ghost use mathlib.Core.Bool.{false};
 ghost use Prim.Native.Nat.{_+_, _≤_};
 ghost use lib.ListN.{length};
-ghost use Rattle.text.specs.Fields.{tab, after};
-ghost use Rattle.text.specs.Names.{entries};
+ghost use Rattle.fields.specs.Fields.{tab, after};
+ghost use Rattle.names.specs.Names.{entries, places};
 ghost use Rattle.expression.specs.Met.{capacity};
 ghost use Rattle.expression.specs.Grammar.{destination};
 ghost use Rattle.row.specs.Stored.{Aimed, Acts, Rows};
@@ -28,7 +27,7 @@ fn read_aim(
     code: &mut [u16; CODE_PLACES],
     from: Cursor,
 ) -> Aim
-    requires { ⌜ d .count ≤ 32 ⌝ ∗ ⌜ from .words + length (now s) ≤ capacity ⌝ ∗ ⌜ from .pieces + length (now s) ≤ capacity ⌝ }
+    requires { ⌜ d .count ≤ places ⌝ ∗ ⌜ from .words + length (now s) ≤ capacity ⌝ ∗ ⌜ from .pieces + length (now s) ≤ capacity ⌝ }
     ensures { λ r. ⌜ Aimed (destination (entries (now (text .entry)) d) (now (s .entry))) (now (s .entry)) r from (now (code .entry)) (now (code .exit)) ⌝ }
 {
     match read_destination(text, d, s, code, from.words, from.pieces) {
@@ -99,7 +98,7 @@ fn read_action(
     start: usize,
     condition: Cursor,
 ) -> RowRead
-    requires { ⌜ d .count ≤ 32 ⌝ ∗ ⌜ start ≤ capacity ⌝ ∗ ⌜ condition .words + length (after tab (after tab (now line))) ≤ capacity ⌝
+    requires { ⌜ d .count ≤ places ⌝ ∗ ⌜ start ≤ capacity ⌝ ∗ ⌜ condition .words + length (after tab (after tab (now line))) ≤ capacity ⌝
         ∗ ⌜ condition .pieces + length (after tab (after tab (now line))) ≤ capacity ⌝ }
     ensures { λ r. ⌜ Acts (entries (now (text .entry)) d) (now (line .entry)) start condition r (now (code .entry)) (now (code .exit)) ⌝ }
 {
@@ -133,7 +132,7 @@ pub(crate) fn read_row(
     code: &mut [u16; CODE_PLACES],
     from: Cursor,
 ) -> RowRead
-    requires { ⌜ d .count ≤ 32 ⌝ ∗ ⌜ from .words + length (now line) ≤ capacity ⌝ ∗ ⌜ from .pieces + length (now line) ≤ capacity ⌝ }
+    requires { ⌜ d .count ≤ places ⌝ ∗ ⌜ from .words + length (now line) ≤ capacity ⌝ ∗ ⌜ from .pieces + length (now line) ≤ capacity ⌝ }
     ensures { λ r. ⌜ Rows (entries (now (text .entry)) d) (now (line .entry)) from r (now (code .entry)) (now (code .exit)) ⌝ }
 {
     match read_expression(

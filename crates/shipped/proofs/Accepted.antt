@@ -5,10 +5,10 @@ use mathlib.Core.Path.{_≡_, refl}
 use Prim.Native.Nat.{_≤_}
 use lib.Dec.{lit≤}
 use lib.ListN.{length}
-use Rattle.text.specs.Bytes.{run, runEnd, same}
-use Rattle.text.specs.Constants.{numberAt, decimalAt, markedAt, shortestFrom, ofDecimal, constantAt}
-use Rattle.text.specs.Fields.{lines, field, hasFields}
-use Rattle.text.specs.Names.{isName, find}
+use Rattle.characters.specs.Characters.{run, runEnd, same}
+use Rattle.constants.specs.Constants.{numberAt, decimalAt, markedAt, shortestFrom, ofDecimal, constantAt}
+use Rattle.fields.specs.Fields.{lines, field, hasFields}
+use Rattle.names.specs.Names.{isName, find}
 use Rattle.token.specs.Operators.{placeIn, operatorRow}
 use Rattle.token.specs.References.{tokenEnd, operatorAt, operatorEnd, secondBit, firstBit, spanAt, partOf, registerAt, referenceAt}
 use Rattle.expression.specs.Grammar.{limited, ofReference, ofConstant, notOf, closed, turned, joined, level, whole, expression, ofName, ofAddress, memoryAt, destination}

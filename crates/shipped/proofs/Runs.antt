@@ -10,8 +10,8 @@ use Rattle.machine.specs.State.{State, Good}
 use Rattle.pdp8.specs.Step.{step}
 use Rattle.pdp8.specs.Run as steps
 use Rattle.pdp8.proofs.Keeps.{step-good}
-use Rattle.text.specs.Bytes.{same}
-use Rattle.text.specs.Names.{find}
+use Rattle.characters.specs.Characters.{same}
+use Rattle.names.specs.Names.{find}
 use Rattle.description.specs.Description.{runName}
 use Rattle.evaluator.specs.Value as rows
 use Rattle.evaluator.specs.Cycle.{Cycle, cycle}

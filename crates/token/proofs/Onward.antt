@@ -8,17 +8,17 @@ use native.Mathlib.Omega.{arith}
 use lib.Dec.{eqb, leb, ltb}
 use lib.ListN.{length, getD}
 use borrow.Author.Tests.{ltb-true, leb-true, eqb-true}
-use Rattle.text.specs.Bytes.{isDigit, isLetter, isWord, runEnd}
-use Rattle.text.specs.Constants.{numberAt, isPlain, largest, decimalAt, markedAt, ofDecimal, constantAt}
-use Rattle.text.specs.Names.{Named, find}
-use Rattle.text.specs.declared.bytes.Class.{Class}
-use Rattle.text.specs.declared.bytes.Class.the-variants.{Space, Word, Binary, Octal, Decimal}
-use Rattle.text.specs.declared.constants.Number.{Number}
-use Rattle.text.specs.declared.constants.Number.the-variants.{Plain, Unread}
-use Rattle.text.specs.declared.constants.Constant.the-variants.{Found}
-use Rattle.text.proofs.Runs.{onward, within}
-use Rattle.text.proofs.Digits.{marked, unmarked, plain, too-large, not-plain}
-use Rattle.text.proofs.Tests.{by-test, and-left, and-right}
+use Rattle.characters.specs.Characters.{isDigit, isLetter, isWord, runEnd}
+use Rattle.constants.specs.Constants.{numberAt, isPlain, largest, decimalAt, markedAt, ofDecimal, constantAt}
+use Rattle.names.specs.Names.{Named, find}
+use Rattle.characters.specs.declared.Class.{Class}
+use Rattle.characters.specs.declared.Class.the-variants.{Space, Word, Binary, Octal, Decimal}
+use Rattle.constants.specs.declared.Number.{Number}
+use Rattle.constants.specs.declared.Number.the-variants.{Plain, Unread}
+use Rattle.constants.specs.declared.Constant.the-variants.{Found}
+use Rattle.characters.proofs.Runs.{onward, within}
+use Rattle.constants.proofs.Digits.{marked, unmarked, plain, too-large, not-plain}
+use Rattle.characters.proofs.Tests.{by-test, and-left, and-right}
 use Rattle.token.specs.declared.references.Span.{Span}
 use Rattle.token.specs.declared.references.Span.the-variants.{Bits, Bad}
 use Rattle.token.specs.declared.references.Reference.the-variants.{Whole, Part, Unknown}
@@ -297,7 +297,7 @@ row-small row k e h =
     (λ t. absurd (omega (arith, no-row row (borrow.Author.Tests.ltb-false row 10 t))))
 
 no-operator : (s : List ℕ) (at : ℕ) → length s ≤ skip s at → operatorAt s at ≡ 10
-unfolding operatorAt operatorRow placeIn Rattle.text.specs.Bytes.same
+unfolding operatorAt operatorRow placeIn Rattle.characters.specs.Characters.same
 no-operator s at h = rw (lib.ListN.drop-of-length-le s h, lib.Seq.take-nil (tokenEnd s (skip s at) - skip s at))
 
 pub operator-past : (s : List ℕ) (at k : ℕ) → entryIn (operatorAt s at) .strength ≡ k → 0 < k → (operatorAt s at < 10) × Past s at (operatorEnd s at)

@@ -9,13 +9,13 @@ use native.Mathlib.Omega.{arith}
 use lib.Dec.{ltb, eqb}
 use lib.ListN.{length, getD, List·getD-eq-default}
 use borrow.Author.Tests.{ltb-true, ltb-false, eq-eqb, ne-eqb}
-use Rattle.text.specs.Bytes.{isWord, belongs, runEnd}
-use Rattle.text.specs.Names.{Named, entryAt, entriesFrom, entries}
-use Rattle.text.specs.declared.names.Dictionary.{Dictionary}
-use Rattle.text.specs.declared.bytes.Class.{Class}
-use Rattle.text.specs.declared.bytes.Class.the-variants.{Word}
-use Rattle.text.proofs.Runs.{goes-on, onward, within}
-use Rattle.text.proofs.Tests.{by-test}
+use Rattle.characters.specs.Characters.{isWord, belongs, runEnd}
+use Rattle.names.specs.Names.{Named, entryAt, entriesFrom, entries}
+use Rattle.names.specs.declared.Dictionary.{Dictionary}
+use Rattle.characters.specs.declared.Class.{Class}
+use Rattle.characters.specs.declared.Class.the-variants.{Word}
+use Rattle.characters.proofs.Runs.{goes-on, onward, within}
+use Rattle.characters.proofs.Tests.{by-test}
 use Rattle.token.specs.References.{skip, next, tokenEnd, widthIn}
 
 -- a byte that isn't 0 stands within

@@ -7,7 +7,7 @@ use mathlib.Core.Bool.{Bool, true, false, _||_}
 use mathlib.Core.List.{List, [], _∷_}
 use lib.Dec.{ltb}
 use lib.ListN.{getD}
-use Rattle.text.specs.Bytes.{same}
+use Rattle.characters.specs.Characters.{same}
 use Rattle.token.specs.declared.operators.Operator.{Operator}
 use Rattle.token.specs.declared.operators.Operator.the-variants.{Not, Join, RotateLeft, RotateRight, Add, Equal, Unequal, Less, And, Or}
 use Rattle.token.specs.declared.operators.Widths.{Widths}

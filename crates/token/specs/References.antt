@@ -6,12 +6,12 @@ use mathlib.Core.Bool.{true, false, _&&_}
 use mathlib.Core.List.{List, []}
 use lib.Dec.{eqb, leb, ltb}
 use lib.ListN.{length, getD, take, drop}
-use Rattle.text.specs.Bytes.{isWord, runEnd}
-use Rattle.text.specs.Constants.{decimalAt}
-use Rattle.text.specs.Names.{Named, find}
-use Rattle.text.specs.declared.bytes.Class.the-variants.{Space, Word}
-use Rattle.text.specs.declared.constants.Number.{Number}
-use Rattle.text.specs.declared.constants.Number.the-variants.{Plain, Unread}
+use Rattle.characters.specs.Characters.{isWord, runEnd}
+use Rattle.constants.specs.Constants.{decimalAt}
+use Rattle.names.specs.Names.{Named, find}
+use Rattle.characters.specs.declared.Class.the-variants.{Space, Word}
+use Rattle.constants.specs.declared.Number.{Number}
+use Rattle.constants.specs.declared.Number.the-variants.{Plain, Unread}
 use Rattle.token.specs.declared.references.Span.{Span}
 use Rattle.token.specs.declared.references.Span.the-variants.{Bits, Bad}
 use Rattle.token.specs.declared.references.Reference.{Reference}

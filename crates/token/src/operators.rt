@@ -1,5 +1,4 @@
 // The operators and their one table.
-use text::bytes;
 ghost use mathlib.Core.Path.{_≡_};
 ghost use Prim.Native.Nat.{_≤_, max};
 ghost use Rattle.token.specs.Operators.{operatorRow, entryIn, isReserved, widthBy};
@@ -91,34 +90,38 @@ const TABLE: [Entry; 10] = [
 pub(crate) fn operator_row(token: &[u8]) -> usize
     ensures { λ r. ⌜ r ≡ operatorRow (now (token .entry)) ⌝ }
 {
-    if bytes::is_same(token, b"Not") {
+    if characters::is_same(token, b"Not") {
         return 0;
     }
-    if bytes::is_same(token, b"@") {
+    if characters::is_same(token, b"@") {
         return 1;
     }
-    if bytes::is_same(token, b"Slr") {
+    if characters::is_same(token, b"Slr") {
         return 2;
     }
-    if bytes::is_same(token, b"Srr") {
+    if characters::is_same(token, b"Srr") {
         return 3;
     }
-    if bytes::is_same(token, b"+") {
+    if characters::is_same(token, b"+") {
         return 4;
     }
-    if bytes::is_same(token, b"Eql") {
+    if characters::is_same(token, b"Eql") {
         return 5;
     }
-    if bytes::is_same(token, b"Neq") {
+    if characters::is_same(token, b"Neq") {
         return 6;
     }
-    if bytes::is_same(token, b"Lss") {
+    if characters::is_same(token, b"Lss") {
         return 7;
     }
-    if bytes::is_same(token, b"And") {
+    if characters::is_same(token, b"And") {
         return 8;
     }
-    if bytes::is_same(token, b"Or") { 9 } else { 10 }
+    if characters::is_same(token, b"Or") {
+        9
+    } else {
+        10
+    }
 }
 
 // A row of the table; past it an entry of no strength.
@@ -140,7 +143,7 @@ pub fn entry_in(row: usize) -> Entry
 pub fn is_reserved(name: &[u8]) -> bool
     ensures { λ r. ⌜ r ≡ isReserved (now (name .entry)) ⌝ }
 {
-    bytes::is_same(name, b"M") | (operator_row(name) < 10)
+    characters::is_same(name, b"M") | (operator_row(name) < 10)
 }
 
 // The wider of two widths.

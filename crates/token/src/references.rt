@@ -1,15 +1,12 @@
 // Tokens, names and bit parts.
 use crate::operators;
-use text::bytes;
-use text::bytes::Class;
-use text::constants;
-use text::constants::Number;
-use text::names;
-use text::names::Dictionary;
+use characters::Class;
+use constants::Number;
+use names::Dictionary;
 ghost use mathlib.Core.Path.{_≡_};
 ghost use Prim.Native.Nat.{_≤_, _<_};
 ghost use lib.ListN.{length};
-ghost use Rattle.text.specs.Names.{entries};
+ghost use Rattle.names.specs.Names.{entries, places};
 ghost use Rattle.token.specs.References.{skip, tokenEnd, operatorAt, operatorEnd, secondBit, firstBit, spanAt, partOf, registerAt, referenceAt};
 
 // Bit numbers and the place after them.
@@ -39,7 +36,7 @@ pub enum Reference {
 pub fn skip_spaces(s: &[u8], at: usize) -> usize
     ensures { λ r. ⌜ r ≡ skip (now (s .entry)) at ⌝ }
 {
-    bytes::run_end(s, at, Class::Space)
+    characters::run_end(s, at, Class::Space)
 }
 
 // The place after the token at a place.
@@ -47,8 +44,8 @@ fn token_end(s: &[u8], at: usize) -> usize
     requires { ⌜ at ≤ length (now s) ⌝ }
     ensures { λ r. ⌜ r ≡ tokenEnd (now (s .entry)) at ⌝ }
 {
-    if bytes::is_of(Class::Word, bytes::byte(s, at)) {
-        bytes::run_end(s, at, Class::Word)
+    if characters::is_of(Class::Word, characters::byte(s, at)) {
+        characters::run_end(s, at, Class::Word)
     } else {
         at + 1
     }
@@ -61,7 +58,7 @@ pub fn operator_at(s: &[u8], at: usize) -> usize
 {
     let start = skip_spaces(s, at);
     let end = token_end(s, start);
-    operators::operator_row(bytes::part(s, start, end - start))
+    operators::operator_row(characters::part(s, start, end - start))
 }
 
 // The place after the token that stands next.
@@ -79,7 +76,7 @@ fn second_bit(s: &[u8], first: u16, last: Number) -> Span
     match last {
         Number::Plain { value, place } => {
             let end = skip_spaces(s, place);
-            if bytes::byte(s, end) == b'>' {
+            if characters::byte(s, end) == b'>' {
                 Span::Bits {
                     first: first,
                     last: value,
@@ -100,7 +97,7 @@ fn first_bit(s: &[u8], first: Number) -> Span
     match first {
         Number::Plain { value, place } => {
             let end = skip_spaces(s, place);
-            let mark = bytes::byte(s, end);
+            let mark = characters::byte(s, end);
             if mark == b'>' {
                 return Span::Bits {
                     first: value,
@@ -151,7 +148,7 @@ fn register_at(s: &[u8], register: u16, width: u16, end: usize) -> Reference
     ensures { λ r. ⌜ r ≡ registerAt (now (s .entry)) register width end ⌝ }
 {
     let mark = skip_spaces(s, end);
-    if bytes::byte(s, mark) == b'<' {
+    if characters::byte(s, mark) == b'<' {
         part_of(register, width, span_at(s, mark + 1))
     } else {
         Reference::Whole {
@@ -164,11 +161,11 @@ fn register_at(s: &[u8], register: u16, width: u16, end: usize) -> Reference
 
 // The register, or the bit part of one, that is named at a place.
 pub fn reference_at(text: &[u8], d: Dictionary, s: &[u8], at: usize) -> Reference
-    requires { ⌜ d .count ≤ 32 ⌝ }
+    requires { ⌜ d .count ≤ places ⌝ }
     ensures { λ r. ⌜ r ≡ referenceAt (entries (now (text .entry)) d) (now (s .entry)) at ⌝ }
 {
-    let end = bytes::run_end(s, at, Class::Word);
-    let register = names::place_of(text, d, bytes::part(s, at, end - at));
+    let end = characters::run_end(s, at, Class::Word);
+    let register = names::place_of(text, d, characters::part(s, at, end - at));
     if register < d.count {
         register_at(s, register as u16, names::number_of(d, register), end)
     } else {

@@ -2,7 +2,7 @@
 use mathlib.Core.Path.{_≡_, refl, sym, ap, _∙_}
 use Prim.Native.Nat.{ℕ}
 use native.Mathlib.Omega.{arith}
-use Rattle.text.specs.Names.{entries}
+use Rattle.names.specs.Names.{entries}
 use Rattle.declaration.specs.Rows.{Description}
 use Rattle.description.specs.declared.reader.Verdict as reader
 use Rattle.description.specs.Stored.{answerBy}

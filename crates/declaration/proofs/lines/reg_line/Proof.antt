@@ -2,8 +2,8 @@
 use mathlib.Core.Path.{_∙_}
 use mathlib.Core.Bool.{not}
 use native.Mathlib.Omega.{arith}
-use Rattle.text.specs.Fields.{hasFields}
-use Rattle.text.proofs.Tests.{and-left}
+use Rattle.fields.specs.Fields.{hasFields}
+use Rattle.characters.proofs.Tests.{and-left}
 use Rattle.declaration.specs.declared.faults.Fault.the-variants.{Line}
 use Rattle.declaration.specs.Lines.{regWord, regLine, addRegister}
 use Rattle.declaration.proofs.Fields.{stands, fits-in}

@@ -5,7 +5,7 @@ use mathlib.Core.List.{List}
 use Prim.Native.Nat.{ℕ, _+_, _≤_, _<_}
 use native.Mathlib.Omega.{arith}
 use lib.ListN.{length, length-drop}
-use Rattle.text.specs.Fields.{lineFeed, until, after, Line, lines}
+use Rattle.fields.specs.Fields.{lineFeed, until, after, Line, lines}
 use Rattle.declaration.specs.Targets.{isAt, isRow, further, passes}
 use Rattle.declaration.proofs.Passes.{from-none, arrived, past-row, past-other, nowhere}
 use borrow.Author.Needs.{needs}

@@ -4,10 +4,10 @@ use mathlib.Core.Bool.{_&&_}
 use Prim.Native.Nat.{ℕ}
 use lib.Dec.{eqb, leb, ltb}
 use lib.ListN.{length}
-use Rattle.text.specs.Fields.{lineFeed, until}
-use Rattle.text.specs.declared.bytes.Class.the-variants.{Printable}
-use Rattle.text.proofs.Lines.{before-length}
-use Rattle.text.proofs.Runs.{from-start}
+use Rattle.fields.specs.Fields.{lineFeed, until}
+use Rattle.characters.specs.declared.Class.the-variants.{Printable}
+use Rattle.fields.proofs.Lines.{before-length}
+use Rattle.characters.proofs.Runs.{from-start}
 use Rattle.declaration.specs.Limits.{longestLine}
 use borrow.Author.Needs.{needs}
 use Rattle.description.proofs.reader.is_fit.Statement.{statement}

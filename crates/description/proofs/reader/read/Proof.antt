@@ -6,9 +6,9 @@ use native.Mathlib.Omega.{arith}
 use lib.ListN.{length}
 use borrow.Author.Needs.{needs}
 use borrow.Author.Tests.{le-leb, lt-leb, lt-ltb, le-ltb, not-true, not-false}
-use Rattle.text.specs.Bytes.{same}
-use Rattle.text.specs.Fields.{lineFeed, until}
-use Rattle.text.proofs.Lines.{before-length}
+use Rattle.characters.specs.Characters.{same}
+use Rattle.fields.specs.Fields.{lineFeed, until}
+use Rattle.fields.proofs.Lines.{before-length}
 use Rattle.description.specs.Description.{header}
 use Rattle.description.proofs.Texts.{answers-refused, answers-as, too-long, no-header, header-alone, after-header}
 use Rattle.description.proofs.reader.read.Statement.{statement}

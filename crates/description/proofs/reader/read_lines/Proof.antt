@@ -3,7 +3,7 @@ use mathlib.Core.Path.{refl, ap}
 use Prim.Native.Nat.{_+_}
 use native.Mathlib.Omega.{arith}
 use lib.ListN.{length, length-drop}
-use Rattle.text.specs.Fields.{lineFeed, until}
+use Rattle.fields.specs.Fields.{lineFeed, until}
 use Rattle.description.proofs.Texts.{Turning, turn-start, turn-refused, turn-next, turn-last, answers-refused}
 use borrow.Author.Needs.{needs}
 use Rattle.description.proofs.reader.read_lines.Statement.{statement}

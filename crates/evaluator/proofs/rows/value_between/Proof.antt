@@ -2,7 +2,7 @@
 use native.Mathlib.Omega.{arith}
 use lib.Dec.{leb}
 use borrow.Author.Tests.{leb-true}
-use Rattle.text.proofs.Tests.{and-left, and-right}
+use Rattle.characters.proofs.Tests.{and-left, and-right}
 use Rattle.evaluator.specs.Stored.{between}
 use borrow.Author.Needs.{needs}
 use Rattle.evaluator.proofs.rows.value_between.Statement.{statement}

@@ -2,7 +2,7 @@
 use mathlib.Core.Path.{refl, sym, ap, _∙_}
 use Prim.Native.Nat.{_+_}
 use native.Mathlib.Omega.{arith}
-use Rattle.text.specs.Constants.{constantAt}
+use Rattle.constants.specs.Constants.{constantAt}
 use Rattle.expression.specs.Tree.{constant}
 use Rattle.expression.specs.Grammar.{ofConstant}
 use Rattle.expression.specs.Code.{codeOf}

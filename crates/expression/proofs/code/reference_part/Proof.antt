@@ -2,7 +2,7 @@
 use mathlib.Core.Path.{refl, sym, ap, _∙_}
 use Prim.Native.Nat.{_+_}
 use native.Mathlib.Omega.{arith}
-use Rattle.text.specs.Names.{entries}
+use Rattle.names.specs.Names.{entries}
 use Rattle.token.specs.References.{referenceAt}
 use Rattle.token.proofs.Onward.{whole-past, bits-past}
 use Rattle.expression.specs.Tree.{register, bitPart}

@@ -2,9 +2,9 @@
 use mathlib.Core.Path.{sym, ap, _∙_}
 use Prim.Native.Nat.{_+_}
 use native.Mathlib.Omega.{arith}
-use Rattle.text.specs.Constants.{decimalAt}
-use Rattle.text.specs.declared.bytes.Class.the-variants.{Space}
-use Rattle.text.proofs.Runs.{onward}
+use Rattle.constants.specs.Constants.{decimalAt}
+use Rattle.characters.specs.declared.Class.the-variants.{Space}
+use Rattle.characters.proofs.Runs.{onward}
 use Rattle.token.specs.References.{skip}
 use Rattle.token.proofs.Onward.{decimal-past}
 use Rattle.expression.proofs.Making.{rotates, large-count, no-count}

@@ -1,8 +1,8 @@
 -- `expression::fields::addressed_place`: by its own test.
 use mathlib.Core.Path.{_∙_}
 use native.Mathlib.Omega.{arith}
-use Rattle.text.specs.declared.bytes.Class.the-variants.{Space}
-use Rattle.text.proofs.Runs.{within}
+use Rattle.characters.specs.declared.Class.the-variants.{Space}
+use Rattle.characters.proofs.Runs.{within}
 use Rattle.expression.proofs.Destinations.{as-found, addressed, unaddressed}
 use borrow.Author.Needs.{needs}
 use Rattle.expression.proofs.fields.addressed_place.Statement.{statement}

@@ -2,7 +2,7 @@
 use mathlib.Core.Path.{sym, ap, _∙_}
 use Prim.Native.Nat.{ℕ, _+_}
 use native.Mathlib.Omega.{arith}
-use Rattle.text.specs.Names.{entries}
+use Rattle.names.specs.Names.{entries}
 use Rattle.token.specs.Operators.{weakest}
 use Rattle.token.proofs.Tokens.{present, at-mark, off-mark}
 use Rattle.expression.specs.declared.code.Cursor.{Cursor}

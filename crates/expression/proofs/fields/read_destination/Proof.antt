@@ -4,10 +4,10 @@ use mathlib.Core.List.{List, [], _∷_}
 use Prim.Native.Nat.{ℕ, _-_}
 use native.Mathlib.Omega.{arith}
 use lib.ListN.{take, drop}
-use Rattle.text.specs.Bytes.{runEnd, same}
-use Rattle.text.specs.Names.{entries}
-use Rattle.text.specs.declared.bytes.Class.the-variants as class
-use Rattle.text.proofs.Runs.{within}
+use Rattle.characters.specs.Characters.{runEnd, same}
+use Rattle.names.specs.Names.{entries}
+use Rattle.characters.specs.declared.Class.the-variants as class
+use Rattle.characters.proofs.Runs.{within}
 use Rattle.expression.specs.Grammar.{memoryAt, ofName, destination}
 use Rattle.expression.proofs.Destinations.{aimed, pointed, to-memory, to-name, not-trimmed}
 use borrow.Author.Needs.{needs}

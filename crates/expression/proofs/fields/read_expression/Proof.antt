@@ -2,7 +2,7 @@
 use mathlib.Core.Path.{refl, sym, _∙_}
 use Prim.Native.Nat.{ℕ, _+_}
 use native.Mathlib.Omega.{arith}
-use Rattle.text.specs.Names.{entries}
+use Rattle.names.specs.Names.{entries}
 use Rattle.expression.specs.declared.code.Cursor.{Cursor}
 use Rattle.expression.specs.declared.code.Part.the-variants.{Fault}
 use Rattle.token.specs.Operators.{weakest}

@@ -9,20 +9,20 @@ use native.Mathlib.Omega.{arith}
 use borrow.Author.Needs.{needs}
 use borrow.Author.Tests.{eq-eqb, ne-eqb, lt-ltb, le-ltb, ltb-true, ltb-false}
 use lib.ListN.{getD}
-use Rattle.text.specs.Names.{entries}
+use Rattle.names.specs.Names.{entries}
 use Rattle.token.specs.declared.operators.Entry.{Entry}
 use Rattle.token.specs.Operators.{strongest, rotations, entryIn, weakest}
 use Rattle.token.specs.References.{skip, next, operatorAt, operatorEnd, slice, referenceAt}
 use Rattle.expression.specs.Grammar.{level, more, operation, operand, worded, negated, enclosed, read, turned, joined, notOf, closed, outside, ofConstant, ofReference, deepest}
 use Rattle.expression.specs.Met.{calls}
 use Rattle.expression.proofs.Calls.{step, feed, feed-fault, regrown, moved, met, grown-by-one, level-operand, level-more, more-stops, more-goes-on, operation-turns, operation-joins, operand-encloses, operand-worded, operand-constant, worded-not, worded-memory, worded-bare, worded-name, negated-in, negated-deep, enclosed-in, enclosed-deep, not-fault, closed-fault, joined-fault}
-use Rattle.text.specs.Bytes.{isLetter, runEnd, same}
-use Rattle.text.specs.Constants.{decimalAt, constantAt}
-use Rattle.text.specs.declared.bytes.Class.the-variants.{Space, Word}
-use Rattle.text.proofs.Runs.{onward, within, after-start}
+use Rattle.characters.specs.Characters.{isLetter, runEnd, same}
+use Rattle.constants.specs.Constants.{decimalAt, constantAt}
+use Rattle.characters.specs.declared.Class.the-variants.{Space, Word}
+use Rattle.characters.proofs.Runs.{onward, within, after-start}
 use Rattle.token.proofs.Tokens.{present, at-mark, off-mark}
 use Rattle.token.proofs.Onward.{letters-past, operator-past, word-of-letter}
-use Rattle.text.proofs.Tests.{by-test}
+use Rattle.characters.proofs.Tests.{by-test}
 use lib.Dec.{ltb}
 use borrow.Fn.Kinds.{In}
 use borrow.Fn.PlainCycle.{Measures, is, falls, and}
@@ -57,11 +57,11 @@ use Rattle.token.proofs.operators.entry_in.Reads as entry-in-reads
 use Rattle.token.proofs.references.operator_at.Reads as operator-at-reads
 use Rattle.token.proofs.references.operator_end.Reads as operator-end-reads
 use Rattle.token.proofs.references.skip_spaces.Reads as skip-spaces-reads
-use Rattle.text.proofs.bytes.byte.Reads as byte-reads
-use Rattle.text.proofs.bytes.is_letter.Reads as is-letter-reads
-use Rattle.text.proofs.bytes.is_same.Reads as is-same-reads
-use Rattle.text.proofs.bytes.part.Reads as part-reads
-use Rattle.text.proofs.bytes.run_end.Reads as run-end-reads
+use Rattle.characters.proofs.byte.Reads as byte-reads
+use Rattle.characters.proofs.is_letter.Reads as is-letter-reads
+use Rattle.characters.proofs.is_same.Reads as is-same-reads
+use Rattle.characters.proofs.part.Reads as part-reads
+use Rattle.characters.proofs.run_end.Reads as run-end-reads
 use Rattle.expression.proofs.grammar.+read_enclosed+read_level+read_more+read_negated+read_operand+read_operation+read_worded.{statement}
 use Rattle.expression.proofs.grammar.+read_enclosed+read_level+read_more+read_negated+read_operand+read_operation+read_worded.Tie.{close}
 

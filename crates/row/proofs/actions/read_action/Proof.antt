@@ -4,7 +4,7 @@ use mathlib.Core.Bool.{true}
 use mathlib.Core.List.{List}
 use Prim.Native.Nat.{ℕ}
 use native.Mathlib.Omega.{arith}
-use Rattle.text.specs.Names.{entries}
+use Rattle.names.specs.Names.{entries}
 use Rattle.expression.specs.Grammar.{expression, destination}
 use Rattle.expression.proofs.Calls.{faulty}
 use Rattle.declaration.proofs.Fields.{field-2-le, fields-2-3-le}

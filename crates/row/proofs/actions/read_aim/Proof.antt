@@ -1,6 +1,6 @@
 -- `actions::read_aim`: case by case.
 use native.Mathlib.Omega.{arith}
-use Rattle.text.specs.Names.{entries}
+use Rattle.names.specs.Names.{entries}
 use Rattle.expression.specs.Grammar.{destination}
 use Rattle.expression.proofs.Formed.{ordered}
 use Rattle.row.proofs.Assignments.{aim-register, aim-part, aim-memory, aim-nowhere}

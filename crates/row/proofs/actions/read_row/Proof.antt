@@ -1,8 +1,8 @@
 -- `actions::read_row`: the condition, then the rest.
 use mathlib.Core.Path.{refl, sym, ap, _∙_}
 use native.Mathlib.Omega.{arith}
-use Rattle.text.specs.Fields.{field}
-use Rattle.text.specs.Names.{entries}
+use Rattle.fields.specs.Fields.{field}
+use Rattle.names.specs.Names.{entries}
 use Rattle.expression.specs.declared.code.Part.the-variants.{Found}
 use Rattle.expression.specs.Grammar.{expression, destination}
 use Rattle.expression.proofs.Calls.{faulty, moved}

@@ -1,7 +1,7 @@
 -- `rows::go_line`: condition, label, and the row if there is room for it.
 use mathlib.Core.Path.{sym, ap, _∙_}
 use native.Mathlib.Omega.{arith}
-use Rattle.text.specs.Fields.{lines}
+use Rattle.fields.specs.Fields.{lines}
 use Rattle.expression.specs.Grammar.{expression}
 use Rattle.expression.proofs.Calls.{faulty}
 use Rattle.declaration.specs.declared.faults.Fault.the-variants.{Line, Expression}

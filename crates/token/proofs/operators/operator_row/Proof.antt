@@ -3,7 +3,7 @@ use mathlib.Core.Path.{_≡_, refl, sym, ap, _∙_}
 use mathlib.Core.Bool.{true, false}
 use mathlib.Core.List.{List, [], _∷_}
 use Prim.Native.Nat.{ℕ, suc}
-use Rattle.text.specs.Bytes.{same}
+use Rattle.characters.specs.Characters.{same}
 use Rattle.token.specs.Operators.{placeIn, operatorRow}
 use borrow.Author.Needs.{needs}
 use Rattle.token.proofs.operators.operator_row.Statement.{statement}

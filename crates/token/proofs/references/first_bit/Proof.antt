@@ -4,7 +4,7 @@ use Prim.Native.Nat.{ℕ, _+_}
 use native.Mathlib.Omega.{arith}
 use Rattle.token.proofs.Tokens.{present, at-mark, off-mark}
 use Rattle.token.specs.References.{skip, firstBit, secondBit}
-use Rattle.text.specs.Constants.{decimalAt}
+use Rattle.constants.specs.Constants.{decimalAt}
 use borrow.Author.Needs.{needs}
 use Rattle.token.proofs.references.first_bit.Statement.{statement}
 use Rattle.token.proofs.references.first_bit.Tie as tie

@@ -3,8 +3,8 @@ use mathlib.Core.Path.{ap, _∙_}
 use Prim.Native.Nat.{ℕ}
 use Rattle.token.specs.References.{slice, tokenEnd, operatorAt}
 use Rattle.token.specs.Operators.{operatorRow}
-use Rattle.text.specs.declared.bytes.Class.the-variants.{Space}
-use Rattle.text.proofs.Runs.{within}
+use Rattle.characters.specs.declared.Class.the-variants.{Space}
+use Rattle.characters.proofs.Runs.{within}
 use Rattle.token.proofs.Tokens.{token-onward}
 use borrow.Author.Needs.{needs}
 use Rattle.token.proofs.references.operator_at.Statement.{statement}

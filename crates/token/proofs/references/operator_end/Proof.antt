@@ -1,8 +1,8 @@
 -- `token::references::operator_end` is its definition, read off the calls.
 use mathlib.Core.Path.{ap, _∙_}
 use Rattle.token.specs.References.{tokenEnd, operatorEnd}
-use Rattle.text.specs.declared.bytes.Class.the-variants.{Space}
-use Rattle.text.proofs.Runs.{within}
+use Rattle.characters.specs.declared.Class.the-variants.{Space}
+use Rattle.characters.proofs.Runs.{within}
 use borrow.Author.Needs.{needs}
 use Rattle.token.proofs.references.operator_end.Statement.{statement}
 use Rattle.token.proofs.references.operator_end.Tie as tie

@@ -7,10 +7,10 @@ use borrow.Author.Tests.{lt-ltb, le-ltb}
 use lib.Dec.{ltb}
 use lib.ListN.{length}
 use mathlib.Core.Bool.{true, false}
-use Rattle.text.specs.Bytes.{runEnd}
-use Rattle.text.specs.Names.{Named, find, entries}
-use Rattle.text.proofs.Runs.{after-start}
-use Rattle.text.specs.declared.bytes.Class.the-variants.{Word}
+use Rattle.characters.specs.Characters.{runEnd}
+use Rattle.names.specs.Names.{Named, find, entries}
+use Rattle.characters.proofs.Runs.{after-start}
+use Rattle.characters.specs.declared.Class.the-variants.{Word}
 use Rattle.token.specs.declared.references.Reference.the-variants.{Unknown}
 use Rattle.token.specs.References.{slice, widthIn, registerAt, referenceAt}
 use Rattle.token.proofs.Tokens.{entries-length, width-is}

@@ -1,7 +1,7 @@
 -- `token::references::span_at` is its definition, read off the calls.
 use mathlib.Core.Path.{ap, _∙_}
 use Rattle.token.specs.References.{firstBit, spanAt}
-use Rattle.text.specs.Constants.{decimalAt}
+use Rattle.constants.specs.Constants.{decimalAt}
 use borrow.Author.Needs.{needs}
 use Rattle.token.proofs.references.span_at.Statement.{statement}
 use Rattle.token.proofs.references.span_at.Tie as tie

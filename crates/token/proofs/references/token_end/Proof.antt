@@ -1,6 +1,6 @@
 -- `token::references::token_end` is its definition, by the first byte.
 use mathlib.Core.Path.{sym, ap, _∙_}
-use Rattle.text.specs.Bytes.{isWord}
+use Rattle.characters.specs.Characters.{isWord}
 use Rattle.token.proofs.Tokens.{word-end, sign-end}
 use borrow.Author.Needs.{needs}
 use Rattle.token.proofs.references.token_end.Statement.{statement}

@@ -1,0 +1,4 @@
+pub mod Runs
+pub mod Strings
+pub mod Tests
+pub mod Cases

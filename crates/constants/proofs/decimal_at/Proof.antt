@@ -1,0 +1,92 @@
+-- `constants::decimal_at`: the tests of its definition, in its order.
+use mathlib.Core.Path.{_≡_, sym}
+use mathlib.Core.Bool.{Bool, true, not, _&&_, _||_}
+use Prim.Native.Nat.{ℕ, _+_, _-_, _≤_}
+use native.Mathlib.Omega.{arith}
+use borrow.Author.Tests.{leb-true, le-leb, lt-leb}
+use lib.Dec.{eqb, leb}
+use lib.ListN.{getD}
+use Rattle.characters.specs.Characters.{runEnd}
+use Rattle.constants.specs.Constants.{numberAt, largest, isPlain}
+use Rattle.characters.specs.declared.Class.the-variants.{Word}
+use Rattle.characters.proofs.Runs.{after-start, before-end}
+use Rattle.constants.proofs.Digits.{plain, too-large, not-plain, decimal-past}
+use Rattle.characters.proofs.Tests.{and-left, and-right}
+use borrow.Author.Needs.{needs}
+use Rattle.constants.proofs.decimal_at.Statement.{statement}
+use Rattle.constants.proofs.decimal_at.Tie as tie
+
+upper : (d : Bool) (at digits end first : ℕ) → d && isPlain first at digits end ≡ true → end ≤ at + 5
+upper d at digits end first t =
+    leb-true end (at + 5)
+    (and-right (eqb digits end) (leb end (at + 5))
+    (and-left (eqb digits end && leb end (at + 5)) (not (eqb first 48) || eqb end (at + 1)) (and-right d (isPlain first at digits end) t)))
+
+returns : tie.Need-returns
+returns c =
+    sym (decimal-past (c .before .before .args .s .now) (c .before .before .args .at) (c .if1 .taken))
+
+shared-slice-read-first : tie.Need-shared-slice-read-first
+shared-slice-read-first c = search needs
+
+run-end-requires : tie.Need-run-end-requires
+run-end-requires c κs = search needs
+
+run-end-requires-2 : tie.Need-run-end-requires-2
+run-end-requires-2 c κs = search needs
+
+add-plain : tie.Need-add-plain
+add-plain c = search needs
+
+add-plain-2 : tie.Need-add-plain-2
+add-plain-2 c = search needs
+
+is-digit-requires : tie.Need-is-digit-requires
+is-digit-requires c κs = search needs
+
+sub-digits-value : tie.Need-sub-digits-value
+sub-digits-value c =
+    after-start Word (c .before .before .before .before .before .before .before .args .s .now) (c .before .before .before .before .before .before .before .args .at) (c .before .before .before .run-end .result) (c .before .before .before .run-end .ensures)
+
+digits-value-requires : tie.Need-digits-value-requires
+digits-value-requires c κs =
+    let a = c .before .before .before .before .before .before .before .args in
+    let low = after-start Word (a .s .now) (a .at) (c .before .before .before .run-end .result) (c .before .before .before .run-end .ensures) in
+    let in-line = before-end Word (a .s .now) (a .at) (c .before .before .before .run-end .result) (c .before .before .before .run-end .ensures) (omega arith) in
+    let short = upper (c .before .is-digit .result) (c .before .before .before .before .before .before .before .args .at) (c .before .before .run-end2 .result) (c .before .before .before .run-end .result) (getD (c .before .before .before .before .before .before .before .args .s .now) (c .before .before .before .before .before .before .before .args .at) 0) (c .if2 .taken) in
+    omega arith
+
+cast-t21 : tie.Need-cast-t21
+cast-t21 c = search needs
+
+returns-2 : tie.Need-returns-2
+returns-2 c =
+    let a = c .before .before .before .before .before .before .before .before .before .args in
+    rw (c .before .digits-value .ensures, c .before .before .before .before .before .run-end .ensures) (sym (plain (a .s .now) (a .at) (rw (c .before .before .before .is-digit .ensures, c .before .before .before .before .run-end2 .ensures, c .before .before .before .before .before .run-end .ensures) at (c .before .before .if2 .taken)) (le-leb (numberAt 10 (a .s .now) (a .at) (runEnd Word (a .s .now) (a .at) - a .at) 0) largest (rw (c .before .digits-value .ensures, c .before .before .before .before .before .run-end .ensures) at (c .if3 .taken)))))
+
+returns-3 : tie.Need-returns-3
+returns-3 c =
+    let a = c .before .before .before .before .before .before .before .before .before .args in
+    sym (too-large (a .s .now) (a .at) (rw (c .before .before .before .is-digit .ensures, c .before .before .before .before .run-end2 .ensures, c .before .before .before .before .before .run-end .ensures) at (c .before .before .if2 .taken)) (lt-leb (numberAt 10 (a .s .now) (a .at) (runEnd Word (a .s .now) (a .at) - a .at) 0) largest (rw (c .before .digits-value .ensures, c .before .before .before .before .before .run-end .ensures) at (c .if3 .left))))
+
+returns-4 : tie.Need-returns-4
+returns-4 c =
+    sym (not-plain (c .before .before .before .before .before .before .before .args .s .now) (c .before .before .before .before .before .before .before .args .at) (rw (c .before .is-digit .ensures, c .before .before .run-end2 .ensures, c .before .before .before .run-end .ensures) at (c .if2 .left)))
+
+pub decimal-at-spec : {M : Type 1} → statement M
+decimal-at-spec =
+    tie.close
+    (tie.spec
+    returns
+    shared-slice-read-first
+    run-end-requires
+    run-end-requires-2
+    add-plain
+    add-plain-2
+    is-digit-requires
+    sub-digits-value
+    digits-value-requires
+    cast-t21
+    returns-2
+    returns-3
+    returns-4)

@@ -1,4 +1,0 @@
-pub mod Bytes
-pub mod Fields
-pub mod Constants
-pub mod Names

@@ -18,8 +18,8 @@ use Rattle.names.specs.declared.Dictionary.{Dictionary}
 use Rattle.characters.proofs.Tests.{by-test, and-left, and-right}
 use Rattle.characters.proofs.Runs.{run-le}
 use Rattle.fields.proofs.Lines.{before-length, first-line, no-line}
-use Rattle.token.specs.References.{widthIn}
-use Rattle.token.proofs.Tokens.{entries-length, width-is}
+use Rattle.bit_parts.specs.References.{widthIn}
+use Rattle.bit_parts.proofs.Listed.{entries-length, width-is}
 use Rattle.declaration.specs.declared.faults.Fault.{Fault}
 use Rattle.declaration.specs.declared.faults.Fault.the-variants.{Size, Header, Line, Label, Run}
 use Rattle.declaration.specs.declared.lines.Progress as code

@@ -10,7 +10,7 @@ use Rattle.fields.specs.Fields as text
 use Rattle.fields.specs.Fields.{lineFeed, until, before, after, lines, field}
 use Rattle.names.specs.Names.{Named, find}
 use Rattle.characters.specs.declared.Class.the-variants.{Printable}
-use Rattle.token.specs.References.{widthIn}
+use Rattle.bit_parts.specs.References.{widthIn}
 use Rattle.declaration.specs.declared.faults.Fault.{Fault}
 use Rattle.declaration.specs.declared.faults.Fault.the-variants.{Size, Header, Line, Label, Run}
 use Rattle.declaration.specs.Rows.{Description}

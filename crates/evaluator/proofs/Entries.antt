@@ -26,8 +26,8 @@ use Rattle.state.proofs.Accepted.{memory-acceptable, registers-fitting, both-fi
 use Rattle.names.specs.Names.{Named, entries, find}
 use Rattle.names.specs.declared.Dictionary.{Dictionary}
 use Rattle.characters.proofs.Tests.{by-test, and-left}
-use Rattle.token.specs.References.{widthIn}
-use Rattle.token.proofs.Tokens.{entries-length, width-is}
+use Rattle.bit_parts.specs.References.{widthIn}
+use Rattle.bit_parts.proofs.Listed.{entries-length, width-is}
 use Rattle.expression.proofs.Formed.{register-width}
 use Rattle.declaration.specs.Limits.{mostRows}
 use Rattle.declaration.specs.Rows.{Description}

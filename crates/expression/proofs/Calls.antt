@@ -13,9 +13,10 @@ use Rattle.characters.specs.declared.Class.the-variants.{Word}
 use Rattle.expression.specs.declared.code.Cursor.{Cursor}
 use Rattle.expression.specs.declared.code.Part.{Part}
 use Rattle.expression.specs.declared.code.Part.the-variants.{Found, Fault}
-use Rattle.token.specs.Operators.{entryIn, weakest, strongest, rotations}
+use Rattle.operators.specs.Operators.{entryIn, weakest, strongest, rotations}
 use Rattle.expression.specs.Tree.{Expr}
-use Rattle.token.specs.References.{skip, next, slice, operatorAt, operatorEnd, referenceAt}
+use Rattle.tokens.specs.Tokens.{skip, next, slice, operatorAt, operatorEnd}
+use Rattle.bit_parts.specs.References.{referenceAt}
 use Rattle.expression.specs.Grammar.{Reading, read, outside, ofConstant, ofReference, notOf, closed, turned, joined, deepest, level, more, operation, operand, worded, negated, enclosed}
 use Rattle.expression.specs.Met.{Held, Meets, Taken, Grown, OneMore}
 

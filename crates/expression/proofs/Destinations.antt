@@ -11,11 +11,12 @@ use Rattle.characters.specs.Characters.{runEnd, same}
 use Rattle.names.specs.Names.{Named}
 use Rattle.characters.specs.declared.Class.the-variants as class
 use Rattle.characters.proofs.Tests.{by-test}
-use Rattle.token.specs.declared.references.Reference.{Reference}
-use Rattle.token.specs.declared.references.Reference.the-variants.{Whole, Part, Unknown}
-use Rattle.token.specs.Operators.{weakest}
-use Rattle.token.specs.References.{skip, next, slice, widthIn, referenceAt}
-use Rattle.token.proofs.Onward.{whole-known, bits-known}
+use Rattle.bit_parts.specs.declared.Reference.{Reference}
+use Rattle.bit_parts.specs.declared.Reference.the-variants.{Whole, Part, Unknown}
+use Rattle.operators.specs.Operators.{weakest}
+use Rattle.tokens.specs.Tokens.{skip, next, slice}
+use Rattle.bit_parts.specs.References.{widthIn, referenceAt}
+use Rattle.bit_parts.proofs.Onward.{whole-known, bits-known}
 use Rattle.expression.specs.declared.code.Cursor.{Cursor}
 use Rattle.expression.specs.declared.code.Part.the-variants.{Fault}
 use Rattle.expression.specs.declared.fields.Place.{Place}

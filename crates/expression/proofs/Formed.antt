@@ -20,14 +20,15 @@ use Rattle.constants.specs.declared.Constant.the-variants.{Found, Missing}
 use Rattle.characters.proofs.Cases.{by-case}
 use Rattle.characters.proofs.Tests.{by-test, and-right}
 use Rattle.constants.proofs.Widths.{Fitting, constant-fits}
-use Rattle.token.specs.declared.operators.Entry.{Entry}
-use Rattle.token.specs.declared.operators.Widths.{Widths}
-use Rattle.token.specs.declared.operators.Widths.the-variants.{Left, Sum, Carry, One, Wider}
-use Rattle.token.specs.declared.references.Reference.{Reference}
-use Rattle.token.specs.declared.references.Reference.the-variants.{Whole, Part, Unknown}
-use Rattle.token.specs.Operators.{table, noEntry, rowOf, entryIn, weakest, strongest, rotations, widthBy}
-use Rattle.token.specs.References.{skip, next, slice, operatorAt, operatorEnd, widthIn, referenceAt}
-use Rattle.token.proofs.Onward.{whole-known, bits-known}
+use Rattle.operators.specs.declared.Entry.{Entry}
+use Rattle.operators.specs.declared.Widths.{Widths}
+use Rattle.operators.specs.declared.Widths.the-variants.{Left, Sum, Carry, One, Wider}
+use Rattle.bit_parts.specs.declared.Reference.{Reference}
+use Rattle.bit_parts.specs.declared.Reference.the-variants.{Whole, Part, Unknown}
+use Rattle.operators.specs.Operators.{table, noEntry, rowOf, entryIn, weakest, strongest, rotations, widthBy}
+use Rattle.tokens.specs.Tokens.{skip, next, slice, operatorAt, operatorEnd}
+use Rattle.bit_parts.specs.References.{widthIn, referenceAt}
+use Rattle.bit_parts.proofs.Onward.{whole-known, bits-known}
 use Rattle.expression.specs.Tree.{Expr, register, bitPart, constant, memory, complemented, rotated, binary, width, pieces}
 use Rattle.expression.specs.Grammar.{Reading, read, outside, deepest, mostPieces, limited, ofReference, ofConstant, notOf, closed, turned, joined, level, more, operation, operand, worded, negated, enclosed, fuel, trimmed, whole, expression, toPart, ofName, ofAddress, memoryAt, destination}
 use Rattle.expression.specs.Formed.{Registers, isOf, Formed, Accepted, Reads, FormedDestination}

@@ -16,13 +16,13 @@ use Rattle.characters.specs.declared.Class.the-variants.{Space}
 use Rattle.characters.proofs.Runs.{onward}
 use Rattle.expression.specs.declared.code.Cursor.{Cursor}
 use Rattle.expression.specs.declared.code.Part.the-variants.{Found, Fault}
-use Rattle.token.specs.Operators.{rowOf, entryIn, widthBy}
+use Rattle.operators.specs.Operators.{rowOf, entryIn, widthBy}
 use Rattle.expression.specs.Tree.{Expr, memory, complemented, rotated, binary, width, pieces}
-use Rattle.token.specs.References.{skip, next}
+use Rattle.tokens.specs.Tokens.{skip, next}
 use Rattle.expression.specs.Grammar.{Reading, read, outside, limited, inside, closed, notOf, turned, joined}
 use Rattle.expression.specs.Code.{codeOf}
 use Rattle.expression.specs.Met.{Held, Meets, Made, Behind, Combined, Turned}
-use Rattle.token.proofs.Onward.{Past}
+use Rattle.bit_parts.proofs.Onward.{Past}
 use Rattle.expression.proofs.Calls.{met}
 use Rattle.expression.proofs.Parts.{behind, over, over-both, row-is, is-limited, too-wide}
 

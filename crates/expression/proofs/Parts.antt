@@ -10,7 +10,7 @@ use borrow.Author.Tests.{le-leb, lt-leb}
 use Rattle.word.specs.Word.{widest}
 use Rattle.expression.specs.declared.code.Cursor.{Cursor}
 use Rattle.expression.specs.declared.code.Part.the-variants.{Found, Fault}
-use Rattle.token.specs.Operators.{rowOf, entryIn}
+use Rattle.operators.specs.Operators.{rowOf, entryIn}
 use Rattle.expression.specs.Tree.{Expr, width, pieces}
 use Rattle.expression.specs.Grammar.{Reading, read, outside, limited}
 use Rattle.expression.specs.Code.{codeOf}

@@ -13,7 +13,7 @@ use Rattle.characters.proofs.Tests.{by-test}
 use Rattle.expression.specs.declared.code.Cursor.{Cursor}
 use Rattle.expression.specs.declared.code.Part.{Part}
 use Rattle.expression.specs.declared.code.Part.the-variants.{Found, Fault}
-use Rattle.token.specs.Operators.{weakest}
+use Rattle.operators.specs.Operators.{weakest}
 use Rattle.expression.specs.Tree.{Expr, pieces}
 use Rattle.expression.specs.Grammar.{Reading, read, outside, level, trimmed, whole, expression, fuel, mostPieces}
 use Rattle.expression.specs.Met.{Held, Meets, Taken, Grown, Same, Whole}

@@ -9,9 +9,9 @@ use lib.Dec.{eqb}
 use lib.ListN.{length}
 use Rattle.word.specs.Word.{widest}
 use Rattle.names.specs.Names.{Named}
-use Rattle.token.specs.declared.operators.Operator.{Operator}
-use Rattle.token.specs.Operators.{rowOf, entryIn, strongest, rotations}
-use Rattle.token.specs.References.{widthIn}
+use Rattle.operators.specs.declared.Operator.{Operator}
+use Rattle.operators.specs.Operators.{rowOf, entryIn, strongest, rotations}
+use Rattle.bit_parts.specs.References.{widthIn}
 use Rattle.expression.specs.Tree.{Expr, register, bitPart, constant, memory, complemented, rotated, binary, width, pieces}
 use Rattle.expression.specs.Grammar.{Reading, read, outside, mostPieces, Destination, toRegister, toPart, toMemory, nowhere}
 

@@ -17,10 +17,11 @@ use Rattle.constants.specs.declared.Number.{Number}
 use Rattle.constants.specs.declared.Number.the-variants.{Plain, Unread}
 use Rattle.constants.specs.declared.Constant.{Constant}
 use Rattle.constants.specs.declared.Constant.the-variants.{Found, Missing}
-use Rattle.token.specs.declared.references.Reference.{Reference}
-use Rattle.token.specs.declared.references.Reference.the-variants.{Whole, Part, Unknown}
-use Rattle.token.specs.Operators.{entryIn, weakest, strongest, rotations}
-use Rattle.token.specs.References.{skip, next, slice, operatorAt, operatorEnd, referenceAt}
+use Rattle.bit_parts.specs.declared.Reference.{Reference}
+use Rattle.bit_parts.specs.declared.Reference.the-variants.{Whole, Part, Unknown}
+use Rattle.operators.specs.Operators.{entryIn, weakest, strongest, rotations}
+use Rattle.tokens.specs.Tokens.{skip, next, slice, operatorAt, operatorEnd}
+use Rattle.bit_parts.specs.References.{referenceAt}
 use Rattle.expression.specs.Tree.{Expr, register, bitPart, constant, memory, complemented, rotated, binary, width, pieces}
 
 -- "Open brackets, parentheses and Nots nest to 8"

@@ -3,8 +3,8 @@
 -- Assumes nothing.
 use Prim.Native.Nat.{ℕ, _+_, _-_}
 use Rattle.word.specs.Word.{wordBits}
-use Rattle.token.specs.declared.operators.Operator.{Operator}
-use Rattle.token.specs.Operators.{rowOf, entryIn, widthBy}
+use Rattle.operators.specs.declared.Operator.{Operator}
+use Rattle.operators.specs.Operators.{rowOf, entryIn, widthBy}
 
 pub data Expr : Type 0 where
   -- a register, by its number and width

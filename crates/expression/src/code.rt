@@ -1,10 +1,8 @@
 // The table of words, and the parts of an expression that are read without going deeper: each puts its word behind those of its sides.
+use bit_parts::Reference;
 use constants::Constant;
 use constants::Number;
 use names::Dictionary;
-use token::operators;
-use token::references;
-use token::references::Reference;
 ghost use mathlib.Core.Path.{_≡_};
 ghost use mathlib.Core.List.{[], _∷_};
 ghost use Prim.Native.Nat.{_+_, _*_, _≤_, _<_};
@@ -14,7 +12,8 @@ ghost use Rattle.characters.specs.Characters.{isWord};
 ghost use lib.Seq.{sets};
 ghost use Rattle.names.specs.Names.{entries, places};
 ghost use Rattle.constants.specs.Constants.{constantAt, decimalAt};
-ghost use Rattle.token.specs.References.{skip, referenceAt};
+ghost use Rattle.tokens.specs.Tokens.{skip};
+ghost use Rattle.bit_parts.specs.References.{referenceAt};
 ghost use Rattle.expression.specs.Grammar.{ofConstant, ofReference, closed, turned, joined};
 ghost use Rattle.expression.specs.Met.{Single, Room, Leaf, Made, Behind, Combined, Turned, capacity};
 
@@ -108,7 +107,7 @@ pub(crate) fn reference_part(
     ensures { λ r. ⌜ Leaf (ofReference (referenceAt (entries (now (text .entry)) d) (now (s .entry)) (c .place))) (now (s .entry)) (c .place + 1)
         (c .words + 1) (c .pieces + 1) r c (now (code .entry)) (now (code .exit)) ⌝ }
 {
-    match references::reference_at(text, d, s, c.place) {
+    match bit_parts::reference_at(text, d, s, c.place) {
         Reference::Whole {
             register,
             width,
@@ -139,7 +138,7 @@ pub(crate) fn closed_part(
     requires { ⌜ c .place ≤ length (now s) ⌝ ∗ ⌜ c .words < capacity ⌝ ∗ ⌜ c .pieces < capacity ⌝ ∗ ⌜ width ≤ 16 ⌝ ∗ ⌜ 0 < close ⌝ }
     ensures { λ r. ⌜ Made (closed (now (s .entry)) close) (now (s .entry)) (c .place + 1) (c .words + 1) (c .pieces + 1) c width r (now (code .entry)) (now (code .exit)) ⌝ }
 {
-    let end = references::skip_spaces(s, c.place);
+    let end = tokens::skip_spaces(s, c.place);
     if characters::byte(s, end) != close {
         return Part::Fault;
     }
@@ -180,7 +179,7 @@ pub(crate) fn rotated_part(
     ensures { λ r. ⌜ Behind 0 (λ f l p. turned row l (decimalAt (now (s .entry)) (skip (now (s .entry)) at))) (now (s .entry)) (at + 1) (c .words + 2) (c .pieces + 2)
         c width r (now (code .entry)) (now (code .exit)) ⌝ }
 {
-    match constants::decimal_at(s, references::skip_spaces(s, at)) {
+    match constants::decimal_at(s, tokens::skip_spaces(s, at)) {
         Number::Plain { value, place } => {
             if value <= 15 {
                 emit(code, c.words, 4 + row as u16, width, value, 0);

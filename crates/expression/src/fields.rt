@@ -3,10 +3,9 @@ use crate::code::CODE_PLACES;
 use crate::code::Cursor;
 use crate::code::Part;
 use crate::grammar;
+use bit_parts::Reference;
 use characters::Class;
 use names::Dictionary;
-use token::references;
-use token::references::Reference;
 ghost use mathlib.Core.Path.{_≡_};
 ghost use Prim.Native.Nat.{_+_, _≤_};
 ghost use lib.ListN.{length};
@@ -130,7 +129,7 @@ fn addressed_place(s: &[u8], end: Cursor, from: Cursor) -> Place
     requires { ⌜ from .pieces ≤ capacity ⌝ ∗ ⌜ end .place ≤ length (now s) ⌝ }
     ensures { λ r. ⌜ Addressed (now (s .entry)) end r from ⌝ }
 {
-    let close = references::skip_spaces(s, end.place);
+    let close = tokens::skip_spaces(s, end.place);
     if (characters::byte(s, close) == b']')
         & (close + 1 == s.len())
         & (end.pieces <= from.pieces + MOST_PIECES)
@@ -155,7 +154,7 @@ fn memory_place(
     ensures { λ r. ⌜ Aims r (memoryAt (entries (now (text .entry)) d) (now (s .entry)) end) (now (s .entry))
         (record { place = 0; words = words; pieces = pieces }) (now (code .entry)) (now (code .exit)) ⌝ }
 {
-    let bracket = references::skip_spaces(s, end);
+    let bracket = tokens::skip_spaces(s, end);
     if characters::byte(s, bracket) == b'[' {
         let start = Cursor {
             place: bracket + 1,
@@ -189,7 +188,7 @@ pub fn read_destination(
         if characters::is_same(characters::part(s, 0, end), b"M") {
             return memory_place(text, d, s, code, words, pieces, end);
         }
-        named_place(s, references::reference_at(text, d, s, 0))
+        named_place(s, bit_parts::reference_at(text, d, s, 0))
     } else {
         Place::Nowhere
     }

@@ -5,16 +5,14 @@ use crate::code::Cursor;
 use crate::code::Part;
 use characters::Class;
 use names::Dictionary;
-use token::operators;
-use token::references;
 ghost use mathlib.Core.Path.{_≡_};
 ghost use mathlib.Core.Bool.{true};
 ghost use Prim.Native.Nat.{_+_, _-_, _≤_, _<_};
 ghost use lib.ListN.{getD};
 ghost use Rattle.characters.specs.Characters.{isLetter};
 ghost use Rattle.names.specs.Names.{entries, places};
-ghost use Rattle.token.specs.Operators.{strongest, entryIn};
-ghost use Rattle.token.specs.References.{operatorAt};
+ghost use Rattle.operators.specs.Operators.{strongest, entryIn};
+ghost use Rattle.tokens.specs.Tokens.{operatorAt};
 ghost use Rattle.expression.specs.Grammar.{read, level, more, operation, operand, worded, negated, enclosed};
 ghost use Rattle.expression.specs.Met.{Room, Answer, Behind, calls};
 
@@ -62,7 +60,7 @@ fn read_more(
         (λ f l p. more f (entries (now (text .entry)) d) (now (s .entry)) depth strength (read l p))
         (now (s .entry)) (left .place) (left .words) (left .pieces) left width r (now (code .entry)) (now (code .exit)) ⌝ }
 {
-    let entry = operators::entry_in(references::operator_at(s, left.place));
+    let entry = operators::entry_in(tokens::operator_at(s, left.place));
     if entry.strength != strength {
         return Part::Found(left, width);
     }
@@ -89,8 +87,8 @@ fn read_operation(
         (λ f l p. operation f (entries (now (text .entry)) d) (now (s .entry)) depth strength l p)
         (now (s .entry)) (left .place + 1) (left .words + 1) (left .pieces + 1) left width r (now (code .entry)) (now (code .exit)) ⌝ }
 {
-    let row = references::operator_at(s, left.place);
-    let end = references::operator_end(s, left.place);
+    let row = tokens::operator_at(s, left.place);
+    let end = tokens::operator_end(s, left.place);
     if strength == operators::entry_in(2).strength {
         return code::rotated_part(s, code, row, left, width, end);
     }
@@ -119,7 +117,7 @@ fn read_operand(
         (λ f. operand f (entries (now (text .entry)) d) (now (s .entry)) depth (c .place))
         (now (s .entry)) (c .place + 1) (c .words + 1) (c .pieces + 1) r c (now (code .entry)) (now (code .exit)) ⌝ }
 {
-    let start = references::skip_spaces(s, c.place);
+    let start = tokens::skip_spaces(s, c.place);
     let first = characters::byte(s, start);
     if first == b'(' {
         let inner = Cursor {
@@ -167,7 +165,7 @@ fn read_worded(
         return read_negated(text, d, s, code, depth, operand);
     }
     if characters::is_same(token, b"M") {
-        let open = references::skip_spaces(s, end);
+        let open = tokens::skip_spaces(s, end);
         if characters::byte(s, open) != b'[' {
             return Part::Fault;
         }

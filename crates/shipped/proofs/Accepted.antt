@@ -9,8 +9,9 @@ use Rattle.characters.specs.Characters.{run, runEnd, same}
 use Rattle.constants.specs.Constants.{numberAt, decimalAt, markedAt, shortestFrom, ofDecimal, constantAt}
 use Rattle.fields.specs.Fields.{lines, field, hasFields}
 use Rattle.names.specs.Names.{isName, find}
-use Rattle.token.specs.Operators.{placeIn, operatorRow}
-use Rattle.token.specs.References.{tokenEnd, operatorAt, operatorEnd, secondBit, firstBit, spanAt, partOf, registerAt, referenceAt}
+use Rattle.operator_names.specs.OperatorNames.{placeIn, operatorRow}
+use Rattle.tokens.specs.Tokens.{tokenEnd, operatorAt, operatorEnd}
+use Rattle.bit_parts.specs.References.{secondBit, firstBit, spanAt, partOf, registerAt, referenceAt}
 use Rattle.expression.specs.Grammar.{limited, ofReference, ofConstant, notOf, closed, turned, joined, level, whole, expression, ofName, ofAddress, memoryAt, destination}
 use Rattle.declaration.specs.Lines.{addRegister, regLine, addLabel, atLine}
 use Rattle.declaration.specs.Targets.{passes}

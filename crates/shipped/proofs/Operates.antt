@@ -14,7 +14,7 @@ use Rattle.word.proofs.Rotation.{rotatedLeft-lt, rotatedRight-lt}
 use Rattle.machine.specs.State.{State, Good, lacBits, withLac, ac, withAc, withoutAc}
 use Rattle.machine.specs.Instruction.{flag}
 use Rattle.machine.specs.Interrupt.{interruptTest}
-use Rattle.token.specs.declared.operators.Operator.the-variants.{RotateLeft, RotateRight}
+use Rattle.operators.specs.declared.Operator.the-variants.{RotateLeft, RotateRight}
 use Rattle.expression.specs.Tree.{register, bitPart, constant, rotated}
 use Rattle.expression.specs.Grammar.{toRegister}
 use Rattle.declaration.specs.Rows.{Row, does, goes}

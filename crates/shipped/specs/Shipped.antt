@@ -3,7 +3,7 @@
 use mathlib.Core.List.{List, [], _∷_}
 use Prim.Native.Nat.{ℕ}
 use Rattle.names.specs.Names.{Named}
-use Rattle.token.specs.declared.operators.Operator.the-variants.{Join, RotateLeft, RotateRight, Add, Equal, Unequal, And, Or}
+use Rattle.operators.specs.declared.Operator.the-variants.{Join, RotateLeft, RotateRight, Add, Equal, Unequal, And, Or}
 use Rattle.expression.specs.Tree.{Expr, register, bitPart, constant, memory, complemented, rotated, binary}
 use Rattle.expression.specs.Grammar.{toRegister, toPart, toMemory}
 use Rattle.declaration.specs.Rows.{Row, does, goes, Description}

@@ -3,7 +3,7 @@ use mathlib.Core.Path.{sym, _∙_}
 use Prim.Native.Nat.{_+_}
 use native.Mathlib.Omega.{arith}
 use borrow.Author.Tests.{eq-eqb, ne-eqb}
-use Rattle.token.proofs.Tokens.{present, at-mark, off-mark}
+use Rattle.tokens.proofs.Tokens.{present, at-mark, off-mark}
 use Rattle.expression.proofs.Making.{left-open, square, round}
 use borrow.Author.Needs.{needs}
 use Rattle.expression.proofs.code.closed_part.Statement.{statement}

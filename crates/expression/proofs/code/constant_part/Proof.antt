@@ -6,7 +6,7 @@ use Rattle.constants.specs.Constants.{constantAt}
 use Rattle.expression.specs.Tree.{constant}
 use Rattle.expression.specs.Grammar.{ofConstant}
 use Rattle.expression.specs.Code.{codeOf}
-use Rattle.token.proofs.Onward.{constant-past}
+use Rattle.bit_parts.proofs.Onward.{constant-past}
 use Rattle.expression.proofs.Parts.{no-leaf}
 use borrow.Author.Needs.{needs}
 use Rattle.expression.proofs.code.constant_part.Statement.{statement}

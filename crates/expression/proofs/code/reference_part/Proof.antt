@@ -3,8 +3,8 @@ use mathlib.Core.Path.{refl, sym, ap, _∙_}
 use Prim.Native.Nat.{_+_}
 use native.Mathlib.Omega.{arith}
 use Rattle.names.specs.Names.{entries}
-use Rattle.token.specs.References.{referenceAt}
-use Rattle.token.proofs.Onward.{whole-past, bits-past}
+use Rattle.bit_parts.specs.References.{referenceAt}
+use Rattle.bit_parts.proofs.Onward.{whole-past, bits-past}
 use Rattle.expression.specs.Tree.{register, bitPart}
 use Rattle.expression.specs.Grammar.{ofReference}
 use Rattle.expression.specs.Code.{codeOf}

@@ -5,8 +5,8 @@ use native.Mathlib.Omega.{arith}
 use Rattle.constants.specs.Constants.{decimalAt}
 use Rattle.characters.specs.declared.Class.the-variants.{Space}
 use Rattle.characters.proofs.Runs.{onward}
-use Rattle.token.specs.References.{skip}
-use Rattle.token.proofs.Onward.{decimal-past}
+use Rattle.tokens.specs.Tokens.{skip}
+use Rattle.bit_parts.proofs.Onward.{decimal-past}
 use Rattle.expression.proofs.Making.{rotates, large-count, no-count}
 use borrow.Author.Needs.{needs}
 use Rattle.expression.proofs.code.rotated_part.Statement.{statement}

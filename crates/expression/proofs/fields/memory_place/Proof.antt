@@ -3,8 +3,8 @@ use mathlib.Core.Path.{sym, ap, _∙_}
 use Prim.Native.Nat.{ℕ, _+_}
 use native.Mathlib.Omega.{arith}
 use Rattle.names.specs.Names.{entries}
-use Rattle.token.specs.Operators.{weakest}
-use Rattle.token.proofs.Tokens.{present, at-mark, off-mark}
+use Rattle.operators.specs.Operators.{weakest}
+use Rattle.tokens.proofs.Tokens.{present, at-mark, off-mark}
 use Rattle.expression.specs.declared.code.Cursor.{Cursor}
 use Rattle.expression.specs.Grammar.{level, fuel, ofAddress, memoryAt}
 use Rattle.expression.proofs.Destinations.{address-fault, aimed, opens, bare}

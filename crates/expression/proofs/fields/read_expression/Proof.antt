@@ -5,7 +5,7 @@ use native.Mathlib.Omega.{arith}
 use Rattle.names.specs.Names.{entries}
 use Rattle.expression.specs.declared.code.Cursor.{Cursor}
 use Rattle.expression.specs.declared.code.Part.the-variants.{Fault}
-use Rattle.token.specs.Operators.{weakest}
+use Rattle.operators.specs.Operators.{weakest}
 use Rattle.expression.specs.Grammar.{level, fuel, whole, expression, outside}
 use Rattle.expression.proofs.Calls.{met}
 use Rattle.expression.proofs.WholeFields.{trims, untrimmed, whole-fault, same-growth}

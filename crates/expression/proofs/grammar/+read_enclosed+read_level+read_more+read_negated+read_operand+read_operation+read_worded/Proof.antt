@@ -10,9 +10,10 @@ use borrow.Author.Needs.{needs}
 use borrow.Author.Tests.{eq-eqb, ne-eqb, lt-ltb, le-ltb, ltb-true, ltb-false}
 use lib.ListN.{getD}
 use Rattle.names.specs.Names.{entries}
-use Rattle.token.specs.declared.operators.Entry.{Entry}
-use Rattle.token.specs.Operators.{strongest, rotations, entryIn, weakest}
-use Rattle.token.specs.References.{skip, next, operatorAt, operatorEnd, slice, referenceAt}
+use Rattle.operators.specs.declared.Entry.{Entry}
+use Rattle.operators.specs.Operators.{strongest, rotations, entryIn, weakest}
+use Rattle.tokens.specs.Tokens.{skip, next, operatorAt, operatorEnd, slice}
+use Rattle.bit_parts.specs.References.{referenceAt}
 use Rattle.expression.specs.Grammar.{level, more, operation, operand, worded, negated, enclosed, read, turned, joined, notOf, closed, outside, ofConstant, ofReference, deepest}
 use Rattle.expression.specs.Met.{calls}
 use Rattle.expression.proofs.Calls.{step, feed, feed-fault, regrown, moved, met, grown-by-one, level-operand, level-more, more-stops, more-goes-on, operation-turns, operation-joins, operand-encloses, operand-worded, operand-constant, worded-not, worded-memory, worded-bare, worded-name, negated-in, negated-deep, enclosed-in, enclosed-deep, not-fault, closed-fault, joined-fault}
@@ -20,8 +21,8 @@ use Rattle.characters.specs.Characters.{isLetter, runEnd, same}
 use Rattle.constants.specs.Constants.{decimalAt, constantAt}
 use Rattle.characters.specs.declared.Class.the-variants.{Space, Word}
 use Rattle.characters.proofs.Runs.{onward, within, after-start}
-use Rattle.token.proofs.Tokens.{present, at-mark, off-mark}
-use Rattle.token.proofs.Onward.{letters-past, operator-past, word-of-letter}
+use Rattle.tokens.proofs.Tokens.{present, at-mark, off-mark}
+use Rattle.bit_parts.proofs.Onward.{letters-past, operator-past, word-of-letter}
 use Rattle.characters.proofs.Tests.{by-test}
 use lib.Dec.{ltb}
 use borrow.Fn.Kinds.{In}
@@ -53,10 +54,10 @@ use Rattle.expression.proofs.code.constant_part.Reads as constant-part-
 use Rattle.expression.proofs.code.joined_part.Reads as joined-part-reads
 use Rattle.expression.proofs.code.reference_part.Reads as reference-part-reads
 use Rattle.expression.proofs.code.rotated_part.Reads as rotated-part-reads
-use Rattle.token.proofs.operators.entry_in.Reads as entry-in-reads
-use Rattle.token.proofs.references.operator_at.Reads as operator-at-reads
-use Rattle.token.proofs.references.operator_end.Reads as operator-end-reads
-use Rattle.token.proofs.references.skip_spaces.Reads as skip-spaces-reads
+use Rattle.operators.proofs.entry_in.Reads as entry-in-reads
+use Rattle.tokens.proofs.operator_at.Reads as operator-at-reads
+use Rattle.tokens.proofs.operator_end.Reads as operator-end-reads
+use Rattle.tokens.proofs.skip_spaces.Reads as skip-spaces-reads
 use Rattle.characters.proofs.byte.Reads as byte-reads
 use Rattle.characters.proofs.is_letter.Reads as is-letter-reads
 use Rattle.characters.proofs.is_same.Reads as is-same-reads

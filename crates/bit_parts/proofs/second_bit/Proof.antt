@@ -1,0 +1,54 @@
+-- `bit_parts::second_bit` is its definition, case by case.
+use mathlib.Core.Path.{sym, _∙_}
+use native.Mathlib.Omega.{arith}
+use Rattle.tokens.proofs.Tokens.{present, at-mark, off-mark}
+use Rattle.bit_parts.specs.References.{secondBit}
+use borrow.Author.Needs.{needs}
+use Rattle.bit_parts.proofs.second_bit.Statement.{statement}
+use Rattle.bit_parts.proofs.second_bit.Tie as tie
+
+enum-known-last : tie.Need-enum-known-last
+enum-known-last c = search needs
+
+skip-spaces-requires : tie.Need-skip-spaces-requires
+skip-spaces-requires c κs = search needs
+
+byte-requires : tie.Need-byte-requires
+byte-requires c κs = search needs
+
+add-t11 : tie.Need-add-t11
+add-t11 c =
+    omega (arith, present (c .before .before .before .before .before .before .before .args .s .now) (c .before .before .skip-spaces .result) 62 (sym (c .before .byte .ensures) ∙ c .if1 .taken) (omega arith))
+
+enum-told : tie.Need-enum-told
+enum-told c = search needs
+
+returns : tie.Need-returns
+unfolding secondBit
+returns c =
+    let t = at-mark (c .before .before .before .before .before .before .before .args .s .now) (c .before .before .before .before .last .given .0 .1 .0) (c .before .before .skip-spaces .result) (c .before .byte .result) 62 (c .before .before .skip-spaces .ensures) (c .before .byte .ensures) (c .if1 .taken) in
+    rw (c .before .before .before .before .last .given .1, c .before .before .skip-spaces .ensures, t, secondBit)
+
+returns-2 : tie.Need-returns-2
+unfolding secondBit
+returns-2 c =
+    let t = off-mark (c .before .before .before .before .before .before .before .args .s .now) (c .before .before .before .before .last .given .0 .1 .0) (c .before .before .skip-spaces .result) (c .before .byte .result) 62 (c .before .before .skip-spaces .ensures) (c .before .byte .ensures) (c .if1 .left) in
+    rw (c .before .before .before .before .last .given .1, t, secondBit)
+
+returns-3 : tie.Need-returns-3
+unfolding secondBit
+returns-3 c =
+    rw (c .enum-told .given .1)
+
+pub second-bit-spec : {M : Type 1} → statement M
+second-bit-spec =
+    tie.close
+    (tie.spec
+    enum-known-last
+    skip-spaces-requires
+    byte-requires
+    add-t11
+    enum-told
+    returns
+    returns-2
+    returns-3)

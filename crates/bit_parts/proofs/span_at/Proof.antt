@@ -1,0 +1,25 @@
+-- `bit_parts::span_at` is its definition, read off the calls.
+use mathlib.Core.Path.{ap, _∙_}
+use Rattle.bit_parts.specs.References.{firstBit, spanAt}
+use Rattle.constants.specs.Constants.{decimalAt}
+use borrow.Author.Needs.{needs}
+use Rattle.bit_parts.proofs.span_at.Statement.{statement}
+use Rattle.bit_parts.proofs.span_at.Tie as tie
+
+skip-spaces-requires : tie.Need-skip-spaces-requires
+skip-spaces-requires c κs = search needs
+
+decimal-at-requires : tie.Need-decimal-at-requires
+decimal-at-requires c κs = search needs
+
+first-bit-requires : tie.Need-first-bit-requires
+first-bit-requires c κs = search needs
+
+returns : tie.Need-returns
+unfolding spanAt
+returns c =
+    c .first-bit .ensures ∙ ap (firstBit (c .before .before .before .before .args .s .now)) (c .before .decimal-at .ensures ∙ ap (decimalAt (c .before .before .before .before .args .s .now)) (c .before .before .skip-spaces .ensures))
+
+pub span-at-spec : {M : Type 1} → statement M
+span-at-spec =
+    tie.close (tie.spec skip-spaces-requires decimal-at-requires first-bit-requires returns)

@@ -1,0 +1,56 @@
+-- References, by place in the field s: the name of a register, or a bit part of one.
+-- Assumes nothing.
+use Prim.Native.Nat.{ℕ, _+_}
+use mathlib.Core.Bool.{true, false, _&&_}
+use mathlib.Core.List.{List, []}
+use lib.Dec.{eqb, leb, ltb}
+use lib.ListN.{length, getD}
+use Rattle.characters.specs.Characters.{runEnd}
+use Rattle.characters.specs.declared.Class.the-variants.{Word}
+use Rattle.constants.specs.Constants.{decimalAt}
+use Rattle.constants.specs.declared.Number.{Number}
+use Rattle.constants.specs.declared.Number.the-variants.{Plain, Unread}
+use Rattle.names.specs.Names.{Named, find}
+use Rattle.tokens.specs.Tokens.{skip, next, slice}
+use Rattle.bit_parts.specs.declared.Span.{Span}
+use Rattle.bit_parts.specs.declared.Span.the-variants.{Bits, Bad}
+use Rattle.bit_parts.specs.declared.Reference.{Reference}
+use Rattle.bit_parts.specs.declared.Reference.the-variants.{Whole, Part, Unknown}
+
+-- "name<a> or name<a:b>": the bit numbers from the place after `<` on
+unfoldable pub secondBit : List ℕ → ℕ → Number → Span
+secondBit s a (Plain b p) = elim (eqb (next s p) 62) [ true ↦ Bits a b (skip s p + 1) | false ↦ Bad ]
+secondBit s a Unread = Bad
+
+unfoldable pub firstBit : List ℕ → Number → Span
+firstBit s (Plain a p) =
+    elim (eqb (next s p) 62) [
+      | true ↦ Bits a a (skip s p + 1)
+      | false ↦ elim (eqb (next s p) 58) [ true ↦ secondBit s a (decimalAt s (skip s (skip s p + 1))) | false ↦ Bad ]
+    ]
+firstBit s Unread = Bad
+
+unfoldable pub spanAt : List ℕ → ℕ → Span
+spanAt s at = firstBit s (decimalAt s (skip s at))
+
+-- "(a at most b, each decimal, below the width ..)"
+unfoldable pub partOf : ℕ → ℕ → Span → Reference
+partOf r w (Bits a b p) = elim (leb a b && ltb b w) [ true ↦ Part r w a b p | false ↦ Unknown ]
+partOf r w Bad = Unknown
+
+-- the width of register r
+abbrev pub widthIn : List Named → ℕ → ℕ
+widthIn rs r = getD rs r (record { name = []; number = 0 }) .number
+
+-- register r of w bits, whose name ends at a place, or a bit part of it
+unfoldable pub registerAt : List ℕ → ℕ → ℕ → ℕ → Reference
+registerAt s r w end = elim (eqb (next s end) 60) [ true ↦ partOf r w (spanAt s (skip s end + 1)) | false ↦ Whole r w end ]
+
+-- the name at a place, "unknown names included"
+unfoldable pub referenceAt : List Named → List ℕ → ℕ → Reference
+referenceAt rs s at =
+    elim (ltb (find (slice s at (runEnd Word s at)) rs) (length rs)) [
+      | true ↦
+          registerAt s (find (slice s at (runEnd Word s at)) rs) (widthIn rs (find (slice s at (runEnd Word s at)) rs)) (runEnd Word s at)
+      | false ↦ Unknown
+    ]

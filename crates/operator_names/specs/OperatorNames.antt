@@ -1,0 +1,35 @@
+-- The names of the operators, and the names that no register may take.
+-- Assumes nothing.
+use Prim.Native.Nat.{ℕ, suc}
+use mathlib.Core.Bool.{Bool, true, false, _||_}
+use mathlib.Core.List.{List, [], _∷_}
+use lib.Dec.{ltb}
+use Rattle.characters.specs.Characters.{same}
+
+-- the operators' names, in the order of their table: Not, @, Slr, Srr, +, Eql, Neq, Lss, And, Or
+abbrev pub names : List (List ℕ)
+names =
+    (78 ∷ 111 ∷ 116 ∷ [])
+    ∷ (64 ∷ [])
+    ∷ (83 ∷ 108 ∷ 114 ∷ [])
+    ∷ (83 ∷ 114 ∷ 114 ∷ [])
+    ∷ (43 ∷ [])
+    ∷ (69 ∷ 113 ∷ 108 ∷ [])
+    ∷ (78 ∷ 101 ∷ 113 ∷ [])
+    ∷ (76 ∷ 115 ∷ 115 ∷ [])
+    ∷ (65 ∷ 110 ∷ 100 ∷ [])
+    ∷ (79 ∷ 114 ∷ [])
+    ∷ []
+
+-- the place of a name in a list, the list's length if it isn't there
+unfoldable pub placeIn : List (List ℕ) → List ℕ → ℕ
+placeIn [] s = 0
+placeIn (n ∷ ns) s = elim (same s n) [ true ↦ 0 | false ↦ suc (placeIn ns s) ]
+
+-- the row of the operator that a token names; 10 if it names none
+unfoldable pub operatorRow : List ℕ → ℕ
+operatorRow s = placeIn names s
+
+-- "Reserved as register names: M, Not, Slr, Srr, Eql, Neq, Lss, And, Or"
+abbrev pub isReserved : List ℕ → Bool
+isReserved s = same s (77 ∷ []) || ltb (operatorRow s) 10

@@ -1,0 +1,48 @@
+// The names of the operators, and the names that no register may take.
+ghost use mathlib.Core.Path.{_≡_};
+ghost use Rattle.operator_names.specs.OperatorNames.{operatorRow, isReserved};
+
+// The row of the operator that a token names, 10 if it names none.
+pub fn operator_row(token: &[u8]) -> usize
+    ensures { λ r. ⌜ r ≡ operatorRow (now (token .entry)) ⌝ }
+{
+    if characters::is_same(token, b"Not") {
+        return 0;
+    }
+    if characters::is_same(token, b"@") {
+        return 1;
+    }
+    if characters::is_same(token, b"Slr") {
+        return 2;
+    }
+    if characters::is_same(token, b"Srr") {
+        return 3;
+    }
+    if characters::is_same(token, b"+") {
+        return 4;
+    }
+    if characters::is_same(token, b"Eql") {
+        return 5;
+    }
+    if characters::is_same(token, b"Neq") {
+        return 6;
+    }
+    if characters::is_same(token, b"Lss") {
+        return 7;
+    }
+    if characters::is_same(token, b"And") {
+        return 8;
+    }
+    if characters::is_same(token, b"Or") {
+        9
+    } else {
+        10
+    }
+}
+
+// Whether a name is reserved.
+pub fn is_reserved(name: &[u8]) -> bool
+    ensures { λ r. ⌜ r ≡ isReserved (now (name .entry)) ⌝ }
+{
+    characters::is_same(name, b"M") | (operator_row(name) < 10)
+}

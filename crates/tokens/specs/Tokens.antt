@@ -1,0 +1,33 @@
+-- Tokens, by place in the field s.
+-- "A constant with its mark, read as far as its digits go, or a run of letters, digits and dots, is one token; so is every other character."
+-- Assumes nothing.
+use Prim.Native.Nat.{ℕ, _+_, _-_}
+use mathlib.Core.Bool.{true, false}
+use mathlib.Core.List.{List}
+use lib.ListN.{getD, take, drop}
+use Rattle.characters.specs.Characters.{isWord, runEnd}
+use Rattle.characters.specs.declared.Class.the-variants.{Space, Word}
+use Rattle.operator_names.specs.OperatorNames.{operatorRow}
+
+-- the place of the next token
+abbrev pub skip : List ℕ → ℕ → ℕ
+skip s at = runEnd Space s at
+
+-- the byte with which the next token begins
+abbrev pub next : List ℕ → ℕ → ℕ
+next s at = getD s (skip s at) 0
+
+-- "a run of letters, digits and dots, is one token; so is every other character": the place after a token that is no marked constant
+unfoldable pub tokenEnd : List ℕ → ℕ → ℕ
+tokenEnd s at = elim (isWord (getD s at 0)) [ true ↦ runEnd Word s at | false ↦ at + 1 ]
+
+-- a token from its start to its end
+abbrev pub slice : List ℕ → ℕ → ℕ → List ℕ
+slice s at end = take (end - at) (drop at s)
+
+-- the operator that stands next, and the place after it
+unfoldable pub operatorAt : List ℕ → ℕ → ℕ
+operatorAt s at = operatorRow (slice s (skip s at) (tokenEnd s (skip s at)))
+
+unfoldable pub operatorEnd : List ℕ → ℕ → ℕ
+operatorEnd s at = tokenEnd s (skip s at)

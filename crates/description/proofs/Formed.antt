@@ -16,7 +16,8 @@ use Rattle.constants.specs.Constants.{decimalAt}
 use Rattle.characters.proofs.Cases.{by-case}
 use Rattle.characters.proofs.Strings.{equal}
 use Rattle.characters.proofs.Tests.{and-left, and-right}
-use Rattle.expression.specs.Grammar.{Reading, read, outside, expression, Destination, destination}
+use Rattle.code.specs.Readings.{Reading, read, outside}
+use Rattle.expression.specs.Expression.{expression, Destination, destination}
 use Rattle.expression.specs.Formed.{Registers, Accepted, Reads, FormedDestination}
 use Rattle.expression.proofs.Formed.{expression-formed, destination-formed}
 use Rattle.declaration.specs.declared.targets.Target.{Target}

@@ -1,12 +1,12 @@
 // The whole text: line by line, then what is looked for after all lines.
 use crate::limits;
 use characters::Class;
+use code::CODE_PLACES;
 use declaration::faults::Fault;
 use declaration::lines;
 use declaration::lines::Progress;
 use declaration::lines::Status;
 use declaration::lines::Step;
-use expression::code::CODE_PLACES;
 use fields::LINE_FEED;
 use names::Dictionary;
 use row::limits::TABLE_CELLS;

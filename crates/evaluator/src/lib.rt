@@ -5,9 +5,9 @@ mod rows;
 mod run;
 mod values;
 
+use code::CODE_PLACES;
 use declaration::faults::Fault;
 use description::reader;
-use expression::code::CODE_PLACES;
 use row::limits::ROWS;
 use row::limits::TABLE_CELLS;
 use state::Reason;

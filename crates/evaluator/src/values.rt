@@ -1,5 +1,5 @@
 // The value of an expression, from its words: postfix, four places a word.
-use expression::code::CODE_PLACES;
+use code::CODE_PLACES;
 ghost use mathlib.Core.Path.{_≡_};
 ghost use Prim.Native.Nat.{ℕ, _+_, _*_, _%_, _≤_, _<_};
 ghost use lib.ListN.{length, getD};

@@ -17,14 +17,17 @@ use Rattle.operators.specs.Operators.{weakest}
 use Rattle.tokens.specs.Tokens.{skip, next, slice}
 use Rattle.bit_parts.specs.References.{widthIn, referenceAt}
 use Rattle.bit_parts.proofs.Onward.{whole-known, bits-known}
-use Rattle.expression.specs.declared.code.Cursor.{Cursor}
-use Rattle.expression.specs.declared.code.Part.the-variants.{Fault}
-use Rattle.expression.specs.declared.fields.Place.{Place}
-use Rattle.expression.specs.declared.fields.Place.the-variants.{Register, Bits, Word, Nowhere}
-use Rattle.expression.specs.Tree.{Expr, pieces}
-use Rattle.expression.specs.Grammar.{Reading, read, outside, level, trimmed, fuel, mostPieces, Destination, toRegister, toPart, toMemory, nowhere, ofName, ofAddress, memoryAt, destination}
-use Rattle.expression.specs.Met.{Held, Meets, Aims, Points, Addressed}
-use Rattle.expression.proofs.Calls.{at, faulty}
+use Rattle.code.specs.declared.Cursor.{Cursor}
+use Rattle.code.specs.declared.Part.the-variants.{Fault}
+use Rattle.expression.specs.declared.Place.{Place}
+use Rattle.expression.specs.declared.Place.the-variants.{Register, Bits, Word, Nowhere}
+use Rattle.code.specs.Tree.{Expr, pieces}
+use Rattle.code.specs.Readings.{Reading, read, outside}
+use Rattle.grammar.specs.Grammar.{level, fuel}
+use Rattle.expression.specs.Expression.{trimmed, mostPieces, Destination, toRegister, toPart, toMemory, nowhere, ofName, ofAddress, memoryAt, destination}
+use Rattle.code.specs.Met.{Held, Meets}
+use Rattle.expression.specs.Met.{Aims, Points, Addressed}
+use Rattle.grammar.proofs.Calls.{at, faulty}
 use Rattle.expression.proofs.WholeFields.{few-pieces}
 
 -- names

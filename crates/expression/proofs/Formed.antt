@@ -29,10 +29,12 @@ use Rattle.operators.specs.Operators.{table, noEntry, rowOf, entryIn, weakest, 
 use Rattle.tokens.specs.Tokens.{skip, next, slice, operatorAt, operatorEnd}
 use Rattle.bit_parts.specs.References.{widthIn, referenceAt}
 use Rattle.bit_parts.proofs.Onward.{whole-known, bits-known}
-use Rattle.expression.specs.Tree.{Expr, register, bitPart, constant, memory, complemented, rotated, binary, width, pieces}
-use Rattle.expression.specs.Grammar.{Reading, read, outside, deepest, mostPieces, limited, ofReference, ofConstant, notOf, closed, turned, joined, level, more, operation, operand, worded, negated, enclosed, fuel, trimmed, whole, expression, toPart, ofName, ofAddress, memoryAt, destination}
+use Rattle.code.specs.Tree.{Expr, register, bitPart, constant, memory, complemented, rotated, binary, width, pieces}
+use Rattle.code.specs.Readings.{Reading, read, outside, limited, ofReference, ofConstant, notOf, closed, largestCount, turned, joined}
+use Rattle.grammar.specs.Grammar.{deepest, level, more, operation, operand, worded, negated, enclosed, fuel}
+use Rattle.expression.specs.Expression.{mostPieces, trimmed, whole, expression, toPart, ofName, ofAddress, memoryAt, destination}
 use Rattle.expression.specs.Formed.{Registers, isOf, Formed, Accepted, Reads, FormedDestination}
-use Rattle.expression.proofs.Parts.{row-is}
+use Rattle.code.proofs.Parts.{row-is}
 
 -- a formed tree's width: 1 to 16
 pub formed-narrow : (rs : List Named) (t : Expr) → Formed rs t → width t ≤ widest
@@ -115,7 +117,7 @@ module _ (rs : List Named) where
 
   turned-formed : (row : ℕ) (l : Expr) (n : Number) → isOf rotations (entryIn row .operator) ≡ true → Formed rs l → Good (turned row l n)
   unfolding turned
-  turned-formed row l (Plain n p) o h = by-case Good (leb n 15) (λ e. record { rotation = o; few = leb-true n 15 e; side = h }) (λ e. tt)
+  turned-formed row l (Plain n p) o h = by-case Good (leb n largestCount) (λ e. record { rotation = o; few = leb-true n largestCount e; side = h }) (λ e. tt)
   turned-formed row l Unread o h = tt
 
   joined-formed : (row : ℕ) (l : Expr) (x : Reading) → isOf strongest (entryIn row .operator) ≡ false → isOf rotations (entryIn row .operator) ≡ false

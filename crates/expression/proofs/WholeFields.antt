@@ -10,14 +10,18 @@ use lib.ListN.{length}
 use borrow.Author.Tests.{le-leb, lt-leb, leb-true, leb-false}
 use Rattle.names.specs.Names.{Named}
 use Rattle.characters.proofs.Tests.{by-test}
-use Rattle.expression.specs.declared.code.Cursor.{Cursor}
-use Rattle.expression.specs.declared.code.Part.{Part}
-use Rattle.expression.specs.declared.code.Part.the-variants.{Found, Fault}
+use Rattle.code.specs.declared.Cursor.{Cursor}
+use Rattle.code.specs.declared.Part.{Part}
+use Rattle.code.specs.declared.Part.the-variants.{Found, Fault}
 use Rattle.operators.specs.Operators.{weakest}
-use Rattle.expression.specs.Tree.{Expr, pieces}
-use Rattle.expression.specs.Grammar.{Reading, read, outside, level, trimmed, whole, expression, fuel, mostPieces}
-use Rattle.expression.specs.Met.{Held, Meets, Taken, Grown, Same, Whole}
-use Rattle.expression.proofs.Calls.{met, faulty}
+use Rattle.code.specs.Tree.{Expr, pieces}
+use Rattle.code.specs.Readings.{Reading, read, outside}
+use Rattle.grammar.specs.Grammar.{level, fuel}
+use Rattle.expression.specs.Expression.{trimmed, whole, expression, mostPieces}
+use Rattle.code.specs.Met.{Held, Meets, Taken, Grown}
+use Rattle.expression.specs.Met.{Same, Whole}
+use Rattle.code.proofs.Parts.{met}
+use Rattle.grammar.proofs.Calls.{faulty}
 
 module _ (s : List ℕ) (t : Expr) (p : ℕ) where
   all-of-it : eqb p (length s) && leb (pieces t) mostPieces ≡ true → whole s (read t p) ≡ read t p

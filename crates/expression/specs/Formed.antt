@@ -12,8 +12,9 @@ use Rattle.names.specs.Names.{Named}
 use Rattle.operators.specs.declared.Operator.{Operator}
 use Rattle.operators.specs.Operators.{rowOf, entryIn, strongest, rotations}
 use Rattle.bit_parts.specs.References.{widthIn}
-use Rattle.expression.specs.Tree.{Expr, register, bitPart, constant, memory, complemented, rotated, binary, width, pieces}
-use Rattle.expression.specs.Grammar.{Reading, read, outside, mostPieces, Destination, toRegister, toPart, toMemory, nowhere}
+use Rattle.code.specs.Tree.{Expr, register, bitPart, constant, memory, complemented, rotated, binary, width, pieces}
+use Rattle.code.specs.Readings.{Reading, read, outside, largestCount}
+use Rattle.expression.specs.Expression.{mostPieces, Destination, toRegister, toPart, toMemory, nowhere}
 
 -- "width (1 to 16 ..)", of every register
 abbrev pub Registers : List Named → Type 0
@@ -34,7 +35,7 @@ Formed rs (constant w v) = record { some : 1 ≤ w; narrow : w ≤ widest; fits 
 Formed rs (memory e) = Formed rs e
 Formed rs (complemented e) = Formed rs e
 -- "Slr, Srr (rotate; right side a decimal from 0 to 15 ..)"
-Formed rs (rotated o e n) = record { rotation : isOf rotations o ≡ true; few : n ≤ 15; side : Formed rs e }
+Formed rs (rotated o e n) = record { rotation : isOf rotations o ≡ true; few : n ≤ largestCount; side : Formed rs e }
 -- the other operators
 Formed rs (binary o l r) =
     record {

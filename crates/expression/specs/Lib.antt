@@ -1,5 +1,3 @@
-pub mod Tree
-pub mod Grammar
-pub mod Code
+pub mod Expression
 pub mod Met
 pub mod Formed

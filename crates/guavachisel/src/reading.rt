@@ -1,7 +1,7 @@
 // The reader for C callers: guavachisel_read of include/guavachisel.h.
+use code::CODE_PLACES;
 use declaration::faults::Fault;
 use description::reader::Verdict;
-use expression::code::CODE_PLACES;
 use row::limits::TABLE_CELLS;
 ghost use mathlib.Core.Path.{_≡_};
 ghost use Rattle.declaration.specs.Faults.{numberOf};

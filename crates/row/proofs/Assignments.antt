@@ -10,12 +10,14 @@ use lib.ListN.{length, length-append}
 use lib.Seq.{sets}
 use Rattle.fields.specs.Fields.{field}
 use Rattle.names.specs.Names.{Named}
-use Rattle.expression.specs.declared.code.Cursor.{Cursor}
-use Rattle.expression.specs.Tree.{Expr, pieces}
-use Rattle.expression.specs.Code.{codeOf}
-use Rattle.expression.specs.Grammar.{Reading, read, outside, Destination, toRegister, toPart, nowhere, expression, destination}
-use Rattle.expression.specs.Met.{Held, Address}
-use Rattle.expression.proofs.Stores.{sets-behind}
+use Rattle.code.specs.declared.Cursor.{Cursor}
+use Rattle.code.specs.Tree.{Expr, pieces}
+use Rattle.code.specs.Code.{codeOf}
+use Rattle.code.specs.Readings.{Reading, read, outside}
+use Rattle.expression.specs.Expression.{Destination, toRegister, toPart, nowhere, expression, destination}
+use Rattle.code.specs.Met.{Held}
+use Rattle.expression.specs.Met.{Address}
+use Rattle.code.proofs.Stores.{sets-behind}
 use Rattle.declaration.specs.Rows.{Row, does}
 use Rattle.row.specs.declared.cells.Aim.{Aim}
 use Rattle.row.specs.declared.actions.RowRead.{RowRead}

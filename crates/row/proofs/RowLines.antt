@@ -13,11 +13,12 @@ use Rattle.word.specs.Choice.{pick}
 use Rattle.fields.specs.Fields.{field, hasFields, lines}
 use Rattle.names.specs.Names.{entries, isName}
 use Rattle.characters.proofs.Tests.{by-test, and-left, and-right}
-use Rattle.expression.specs.declared.code.Cursor.{Cursor}
-use Rattle.expression.specs.declared.code.Part.the-variants.{Found}
-use Rattle.expression.specs.Tree.{Expr, pieces}
-use Rattle.expression.specs.Grammar.{Reading, read, outside, expression, destination}
-use Rattle.expression.specs.Met.{Held, Meets}
+use Rattle.code.specs.declared.Cursor.{Cursor}
+use Rattle.code.specs.declared.Part.the-variants.{Found}
+use Rattle.code.specs.Tree.{Expr, pieces}
+use Rattle.code.specs.Readings.{Reading, read, outside}
+use Rattle.expression.specs.Expression.{expression, destination}
+use Rattle.code.specs.Met.{Held, Meets}
 use Rattle.declaration.specs.declared.faults.Fault.{Fault}
 use Rattle.declaration.specs.declared.faults.Fault.the-variants.{Line, Expression, Label, Limit}
 use Rattle.declaration.specs.declared.lines.Progress as code

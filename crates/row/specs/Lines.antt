@@ -9,7 +9,8 @@ use lib.ListN.{length}
 use Rattle.fields.specs.Fields as text
 use Rattle.fields.specs.Fields.{field, hasFields}
 use Rattle.names.specs.Names.{isName}
-use Rattle.expression.specs.Grammar.{Reading, read, outside, expression, Destination, toRegister, toPart, toMemory, nowhere, destination}
+use Rattle.code.specs.Readings.{Reading, read, outside}
+use Rattle.expression.specs.Expression.{expression, Destination, toRegister, toPart, toMemory, nowhere, destination}
 use Rattle.declaration.specs.declared.faults.Fault.the-variants.{Line, Expression, Label, Limit}
 use Rattle.declaration.specs.declared.targets.Target.{Target}
 use Rattle.declaration.specs.declared.targets.Target.the-variants.{Passes, Missing}

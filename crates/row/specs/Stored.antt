@@ -10,10 +10,11 @@ use lib.Seq.{sets}
 use Rattle.word.specs.Choice.{pick}
 use Rattle.fields.specs.Fields.{field}
 use Rattle.names.specs.Names.{Named}
-use Rattle.expression.specs.Tree.{Expr}
-use Rattle.expression.specs.Grammar.{read, Destination, expression, destination}
-use Rattle.expression.specs.Met.{Held}
-use Rattle.expression.specs.declared.code.Cursor.{Cursor}
+use Rattle.code.specs.Tree.{Expr}
+use Rattle.code.specs.Readings.{read}
+use Rattle.expression.specs.Expression.{Destination, expression, destination}
+use Rattle.code.specs.Met.{Held}
+use Rattle.code.specs.declared.Cursor.{Cursor}
 use Rattle.declaration.specs.declared.faults.Fault.the-variants.{Limit}
 use Rattle.declaration.specs.declared.lines.Progress as progress
 use Rattle.declaration.specs.declared.lines.Status.the-variants.{Goes, Refused}

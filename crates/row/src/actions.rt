@@ -2,12 +2,12 @@
 use crate::cells;
 use crate::cells::Aim;
 use crate::cells::ROW_CELLS;
-use expression::code::CODE_PLACES;
-use expression::code::Cursor;
-use expression::code::Part;
-use expression::fields::Place;
-use expression::fields::read_destination;
-use expression::fields::read_expression;
+use code::CODE_PLACES;
+use code::Cursor;
+use code::Part;
+use expression::Place;
+use expression::read_destination;
+use expression::read_expression;
 use names::Dictionary;
 ghost use mathlib.Core.Path.{_≡_};
 ghost use mathlib.Core.Bool.{false};
@@ -15,8 +15,8 @@ ghost use Prim.Native.Nat.{_+_, _≤_};
 ghost use lib.ListN.{length};
 ghost use Rattle.fields.specs.Fields.{tab, after};
 ghost use Rattle.names.specs.Names.{entries, places};
-ghost use Rattle.expression.specs.Met.{capacity};
-ghost use Rattle.expression.specs.Grammar.{destination};
+ghost use Rattle.code.specs.Met.{capacity};
+ghost use Rattle.expression.specs.Expression.{destination};
 ghost use Rattle.row.specs.Stored.{Aimed, Acts, Rows};
 
 // The destination in a field, behind what a cursor has counted.

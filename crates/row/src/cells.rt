@@ -1,10 +1,10 @@
 // The cells of a row in the table of rows.
 use crate::limits::TABLE_CELLS;
-use expression::code::Cursor;
+use code::Cursor;
 ghost use mathlib.Core.Path.{_≡_};
 ghost use Prim.Native.Nat.{_*_, _≤_, _<_};
 ghost use lib.Seq.{sets};
-ghost use Rattle.expression.specs.Met.{capacity};
+ghost use Rattle.code.specs.Met.{capacity};
 ghost use Rattle.declaration.specs.Limits.{mostRows};
 ghost use Rattle.row.specs.Cells.{rowCells, goCells, doCells};
 

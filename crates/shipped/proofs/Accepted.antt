@@ -12,7 +12,9 @@ use Rattle.names.specs.Names.{isName, find}
 use Rattle.operator_names.specs.OperatorNames.{placeIn, operatorRow}
 use Rattle.tokens.specs.Tokens.{tokenEnd, operatorAt, operatorEnd}
 use Rattle.bit_parts.specs.References.{secondBit, firstBit, spanAt, partOf, registerAt, referenceAt}
-use Rattle.expression.specs.Grammar.{limited, ofReference, ofConstant, notOf, closed, turned, joined, level, whole, expression, ofName, ofAddress, memoryAt, destination}
+use Rattle.code.specs.Readings.{limited, ofReference, ofConstant, notOf, closed, turned, joined}
+use Rattle.grammar.specs.Grammar.{level}
+use Rattle.expression.specs.Expression.{whole, expression, ofName, ofAddress, memoryAt, destination}
 use Rattle.declaration.specs.Lines.{addRegister, regLine, addLabel, atLine}
 use Rattle.declaration.specs.Targets.{passes}
 use Rattle.row.specs.Lines.{addRow, doRow, withRow, doLine, goRow, goLine}

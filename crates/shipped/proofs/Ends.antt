@@ -9,8 +9,8 @@ use lib.ListN.{drop}
 use Rattle.word.specs.Choice.{on, pick}
 use Rattle.word.proofs.Choice.{case-true, case-false}
 use Rattle.machine.specs.State.{State}
-use Rattle.expression.specs.Tree.{Expr}
-use Rattle.expression.specs.Grammar.{Destination}
+use Rattle.code.specs.Tree.{Expr}
+use Rattle.expression.specs.Expression.{Destination}
 use Rattle.declaration.specs.Rows.{Row, does, goes}
 use Rattle.evaluator.specs.Value as rows
 use Rattle.evaluator.specs.Value.{value, store}

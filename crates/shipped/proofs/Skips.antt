@@ -15,8 +15,8 @@ use Rattle.machine.specs.State.{State, Good, withLac, withPc, withRun, link, ac
 use Rattle.machine.specs.Instruction.{flag}
 use Rattle.machine.specs.Interrupt.{interruptTest}
 use Rattle.machine.proofs.Lac.{ac-lt}
-use Rattle.expression.specs.Tree.{Expr, constant}
-use Rattle.expression.specs.Grammar.{toRegister}
+use Rattle.code.specs.Tree.{Expr, constant}
+use Rattle.expression.specs.Expression.{toRegister}
 use Rattle.declaration.specs.Rows.{Row, does}
 use Rattle.evaluator.specs.Value as rows
 use Rattle.evaluator.specs.Value.{value}

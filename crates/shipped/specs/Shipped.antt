@@ -4,8 +4,8 @@ use mathlib.Core.List.{List, [], _∷_}
 use Prim.Native.Nat.{ℕ}
 use Rattle.names.specs.Names.{Named}
 use Rattle.operators.specs.declared.Operator.the-variants.{Join, RotateLeft, RotateRight, Add, Equal, Unequal, And, Or}
-use Rattle.expression.specs.Tree.{Expr, register, bitPart, constant, memory, complemented, rotated, binary}
-use Rattle.expression.specs.Grammar.{toRegister, toPart, toMemory}
+use Rattle.code.specs.Tree.{Expr, register, bitPart, constant, memory, complemented, rotated, binary}
+use Rattle.expression.specs.Expression.{toRegister, toPart, toMemory}
 use Rattle.declaration.specs.Rows.{Row, does, goes, Description}
 
 -- "the shipped description (at most 80 rows)"

@@ -5,8 +5,8 @@ use mathlib.Core.List.{List}
 use Prim.Native.Nat.{ℕ}
 use native.Mathlib.Omega.{arith}
 use Rattle.names.specs.Names.{entries}
-use Rattle.expression.specs.Grammar.{expression, destination}
-use Rattle.expression.proofs.Calls.{faulty}
+use Rattle.expression.specs.Expression.{expression, destination}
+use Rattle.grammar.proofs.Calls.{faulty}
 use Rattle.declaration.proofs.Fields.{field-2-le, fields-2-3-le}
 use Rattle.row.specs.declared.actions.RowRead.{RowRead}
 use Rattle.row.specs.Lines.{isSomewhere}

@@ -1,7 +1,7 @@
 -- `actions::read_aim`: case by case.
 use native.Mathlib.Omega.{arith}
 use Rattle.names.specs.Names.{entries}
-use Rattle.expression.specs.Grammar.{destination}
+use Rattle.expression.specs.Expression.{destination}
 use Rattle.expression.proofs.Formed.{ordered}
 use Rattle.row.proofs.Assignments.{aim-register, aim-part, aim-memory, aim-nowhere}
 use borrow.Author.Needs.{needs}

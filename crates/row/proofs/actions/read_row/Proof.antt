@@ -3,9 +3,9 @@ use mathlib.Core.Path.{refl, sym, ap, _∙_}
 use native.Mathlib.Omega.{arith}
 use Rattle.fields.specs.Fields.{field}
 use Rattle.names.specs.Names.{entries}
-use Rattle.expression.specs.declared.code.Part.the-variants.{Found}
-use Rattle.expression.specs.Grammar.{expression, destination}
-use Rattle.expression.proofs.Calls.{faulty, moved}
+use Rattle.code.specs.declared.Part.the-variants.{Found}
+use Rattle.expression.specs.Expression.{expression, destination}
+use Rattle.grammar.proofs.Calls.{faulty, moved}
 use Rattle.declaration.proofs.Fields.{field-1-le, field-1-rest-le}
 use Rattle.row.proofs.RowLines.{read-as}
 use Rattle.row.proofs.Assignments.{not-so, no-condition, with-condition, without-row}

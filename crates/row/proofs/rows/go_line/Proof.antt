@@ -2,8 +2,8 @@
 use mathlib.Core.Path.{sym, ap, _∙_}
 use native.Mathlib.Omega.{arith}
 use Rattle.fields.specs.Fields.{lines}
-use Rattle.expression.specs.Grammar.{expression}
-use Rattle.expression.proofs.Calls.{faulty}
+use Rattle.expression.specs.Expression.{expression}
+use Rattle.grammar.proofs.Calls.{faulty}
 use Rattle.declaration.specs.declared.faults.Fault.the-variants.{Line, Expression}
 use Rattle.declaration.specs.Stored.{progressOf}
 use Rattle.declaration.proofs.Fields.{field-1-le}

@@ -1,0 +1,4 @@
+pub mod Stores
+pub mod Pieces
+pub mod Parts
+pub mod Making

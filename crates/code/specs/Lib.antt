@@ -1,0 +1,4 @@
+pub mod Tree
+pub mod Code
+pub mod Readings
+pub mod Met

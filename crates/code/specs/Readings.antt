@@ -1,0 +1,61 @@
+-- What the grammar reads: a tree and the place after it, or nothing within the rules; and what each form of an operand or an operator makes of
+-- what was read.
+-- Assumes nothing.
+use Prim.Native.Nat.{ℕ, _+_, _-_}
+use mathlib.Core.Bool.{true, false}
+use mathlib.Core.List.{List}
+use lib.Dec.{eqb, leb}
+use Rattle.word.specs.Word.{widest}
+use Rattle.constants.specs.declared.Number.{Number}
+use Rattle.constants.specs.declared.Number.the-variants.{Plain, Unread}
+use Rattle.constants.specs.declared.Constant.{Constant}
+use Rattle.constants.specs.declared.Constant.the-variants.{Found, Missing}
+use Rattle.bit_parts.specs.declared.Reference.{Reference}
+use Rattle.bit_parts.specs.declared.Reference.the-variants.{Whole, Part, Unknown}
+use Rattle.operators.specs.Operators.{entryIn}
+use Rattle.tokens.specs.Tokens.{skip, next}
+use Rattle.code.specs.Tree.{Expr, register, bitPart, constant, memory, complemented, rotated, binary, width}
+
+-- a tree and the place after it, or nothing within the rules
+pub data Reading : Type 0 where
+  read : Expr → ℕ → Reading
+  outside : Reading
+
+-- "No width may pass 16"
+unfoldable pub limited : Expr → ℕ → Reading
+limited t p = elim (leb (width t) widest) [ true ↦ read t p | false ↦ outside ]
+
+unfoldable pub ofReference : Reference → Reading
+ofReference (Whole r w p) = limited (register r w) p
+ofReference (Part r w a b p) = limited (bitPart r w a b) p
+ofReference Unknown = outside
+
+unfoldable pub ofConstant : Constant → Reading
+ofConstant (Found v w p) = limited (constant w v) p
+ofConstant Missing = outside
+
+-- "Not": its operand turned over
+unfoldable pub notOf : Reading → Reading
+notOf (read t p) = read (complemented t) p
+notOf outside = outside
+
+-- what stands in `M[..]` or `(..)`, by its closing byte
+abbrev pub inside : ℕ → Expr → Expr
+inside close t = elim (eqb close 93) [ true ↦ memory t | false ↦ t ]
+
+unfoldable pub closed : List ℕ → ℕ → Reading → Reading
+closed s close (read t p) = elim (eqb (next s p) close) [ true ↦ read (inside close t) (skip s p + 1) | false ↦ outside ]
+closed s close outside = outside
+
+-- "Slr, Srr (rotate; right side a decimal from 0 to 15 ..)"
+abbrev pub largestCount : ℕ
+largestCount = 15
+
+unfoldable pub turned : ℕ → Expr → Number → Reading
+turned row t (Plain n p) = elim (leb n largestCount) [ true ↦ read (rotated (entryIn row .operator) t n) p | false ↦ outside ]
+turned row t Unread = outside
+
+-- the other operators
+unfoldable pub joined : ℕ → Expr → Reading → Reading
+joined row l (read r p) = limited (binary (entryIn row .operator) l r) p
+joined row l outside = outside

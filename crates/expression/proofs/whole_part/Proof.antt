@@ -1,0 +1,19 @@
+-- `expression::whole_part`: by its own test.
+use Rattle.expression.proofs.WholeFields.{is-whole, is-part}
+use borrow.Author.Needs.{needs}
+use Rattle.expression.proofs.whole_part.Statement.{statement}
+use Rattle.expression.proofs.whole_part.Tie as tie
+
+add-if1 : tie.Need-add-if1
+add-if1 c = search needs
+
+returns : tie.Need-returns
+returns c =
+    is-whole (c .before .before .before .args .s .now) (c .before .before .before .args .end) (c .before .before .before .args .width) (c .before .before .before .args .pieces) (c .if1 .taken)
+
+returns-2 : tie.Need-returns-2
+returns-2 c =
+    is-part (c .before .before .before .args .s .now) (c .before .before .before .args .end) (c .before .before .before .args .width) (c .before .before .before .args .pieces) (c .if1 .left)
+
+pub whole-part-spec : {M : Type 1} → statement M
+whole-part-spec = tie.close (tie.spec add-if1 returns returns-2)

@@ -1,0 +1,70 @@
+-- Whole fields, over the registers rs: an expression, and a destination.
+-- "Spaces may stand between tokens in an expression or destination only, not at its ends."
+-- Assumes nothing.
+use Prim.Native.Nat.{ℕ, _+_, _-_}
+use mathlib.Core.Bool.{Bool, true, false, not, _&&_}
+use mathlib.Core.List.{List, [], _∷_}
+use lib.Dec.{eqb, leb}
+use lib.ListN.{length, getD}
+use Rattle.characters.specs.Characters.{runEnd, same}
+use Rattle.names.specs.Names.{Named}
+use Rattle.characters.specs.declared.Class.the-variants.{Word}
+use Rattle.bit_parts.specs.declared.Reference.{Reference}
+use Rattle.bit_parts.specs.declared.Reference.the-variants.{Whole, Part, Unknown}
+use Rattle.operators.specs.Operators.{weakest}
+use Rattle.tokens.specs.Tokens.{skip, next, slice}
+use Rattle.bit_parts.specs.References.{referenceAt}
+use Rattle.code.specs.Tree.{Expr, memory, pieces}
+use Rattle.code.specs.Readings.{Reading, read, outside}
+use Rattle.grammar.specs.Grammar.{level, fuel}
+
+-- "an expression has at most 32"
+abbrev pub mostPieces : ℕ
+mostPieces = 32
+
+-- "not at its ends"
+abbrev pub trimmed : List ℕ → Bool
+trimmed s = not (eqb (getD s 0 0) 32) && not (eqb (getD s (length s - 1) 0) 32)
+
+unfoldable pub whole : List ℕ → Reading → Reading
+whole s (read t p) = elim (eqb p (length s) && leb (pieces t) mostPieces) [ true ↦ read t p | false ↦ outside ]
+whole s outside = outside
+
+-- a field that is an expression
+unfoldable pub expression : List Named → List ℕ → Reading
+expression rs s = elim (trimmed s) [ true ↦ whole s (level (fuel s) rs s 0 weakest 0) | false ↦ outside ]
+
+-- "A destination is a name, a bit part `name<a>` or `name<a:b>` .., or `M[expression]`"
+pub data Destination : Type 0 where
+  toRegister : ℕ → ℕ → Destination
+  toPart : ℕ → ℕ → ℕ → ℕ → Destination
+  toMemory : Expr → Destination
+  nowhere : Destination
+
+unfoldable pub ofName : List ℕ → Reference → Destination
+ofName s (Whole r w p) = elim (eqb p (length s)) [ true ↦ toRegister r w | false ↦ nowhere ]
+ofName s (Part r w a b p) = elim (eqb p (length s)) [ true ↦ toPart r w a b | false ↦ nowhere ]
+ofName s Unknown = nowhere
+
+-- "a destination's own bracket isn't counted"; "a memory destination's address being one of its own"
+unfoldable pub ofAddress : List ℕ → Reading → Destination
+ofAddress s (read t p) =
+    elim (eqb (next s p) 93 && eqb (skip s p + 1) (length s) && leb (pieces t) mostPieces) [ true ↦ toMemory t | false ↦ nowhere ]
+ofAddress s outside = nowhere
+
+-- `M[expression]`, from the place after `M` on
+unfoldable pub memoryAt : List Named → List ℕ → ℕ → Destination
+memoryAt rs s end =
+    elim (eqb (next s end) 91) [ true ↦ ofAddress s (level (fuel s) rs s 0 weakest (skip s end + 1)) | false ↦ nowhere ]
+
+-- a field that is a destination
+unfoldable pub destination : List Named → List ℕ → Destination
+destination rs s =
+    elim (trimmed s) [
+      | true ↦
+          elim (same (slice s 0 (runEnd Word s 0)) (77 ∷ [])) [
+            | true ↦ memoryAt rs s (runEnd Word s 0)
+            | false ↦ ofName s (referenceAt rs s 0)
+          ]
+      | false ↦ nowhere
+    ]

@@ -1,0 +1,90 @@
+-- The grammar of expressions, by place in the field s, over the registers rs.
+-- "Spaces may stand between tokens in an expression or destination only, not at its ends."
+-- Each call of the grammar lowers the number f, which only bounds how deep the calls go: see `fuel`.
+-- Assumes nothing.
+use Prim.Native.Nat.{ℕ, zero, suc, _+_, _-_, _*_}
+use mathlib.Core.Bool.{true, false}
+use mathlib.Core.List.{List, [], _∷_}
+use lib.Dec.{eqb, ltb}
+use lib.ListN.{length}
+use Rattle.characters.specs.Characters.{isLetter, runEnd, same}
+use Rattle.constants.specs.Constants.{decimalAt, constantAt}
+use Rattle.names.specs.Names.{Named}
+use Rattle.characters.specs.declared.Class.the-variants.{Word}
+use Rattle.operators.specs.Operators.{entryIn, weakest, strongest, rotations}
+use Rattle.tokens.specs.Tokens.{skip, next, slice, operatorAt, operatorEnd}
+use Rattle.bit_parts.specs.References.{referenceAt}
+use Rattle.code.specs.Tree.{Expr}
+use Rattle.code.specs.Readings.{Reading, read, outside, ofReference, ofConstant, notOf, closed, turned, joined}
+
+-- "Open brackets, parentheses and Nots nest to 8"
+abbrev pub deepest : ℕ
+deepest = 8
+
+-- "Not is prefix; the others group from the left": a level's expression is a part of the next stronger level, and more of its own strength
+unfoldable mutual
+  pub level : ℕ → List Named → List ℕ → ℕ → ℕ → ℕ → Reading
+  level zero rs s d k at = outside
+  level (suc f) rs s d k at =
+      elim (eqb k strongest) [ true ↦ operand f rs s d at | false ↦ more f rs s d k (level f rs s d (k + 1) at) ]
+
+  pub more : ℕ → List Named → List ℕ → ℕ → ℕ → Reading → Reading
+  more zero rs s d k x = outside
+  more (suc f) rs s d k x =
+      elim x [
+        | read l p ↦
+            elim (eqb (entryIn (operatorAt s p) .strength) k) [
+              | true ↦ more f rs s d k (operation f rs s d k l p)
+              | false ↦ read l p
+            ]
+        | outside ↦ outside
+      ]
+
+  -- the operator behind a left side, with its right side
+  pub operation : ℕ → List Named → List ℕ → ℕ → ℕ → Expr → ℕ → Reading
+  operation zero rs s d k l p = outside
+  operation (suc f) rs s d k l p =
+      elim (eqb k rotations) [
+        | true ↦ turned (operatorAt s p) l (decimalAt s (skip s (operatorEnd s p)))
+        | false ↦ joined (operatorAt s p) l (level f rs s d (k + 1) (operatorEnd s p))
+      ]
+
+  -- "Expressions hold names, bit parts, `M[..]`, `(..)` and constants"
+  pub operand : ℕ → List Named → List ℕ → ℕ → ℕ → Reading
+  operand zero rs s d at = outside
+  operand (suc f) rs s d at =
+      elim (eqb (next s at) 40) [
+        | true ↦ enclosed f rs s d 41 (skip s at + 1)
+        | false ↦
+            elim (isLetter (next s at)) [ true ↦ worded f rs s d (skip s at) | false ↦ ofConstant (constantAt s (skip s at)) ]
+      ]
+
+  pub worded : ℕ → List Named → List ℕ → ℕ → ℕ → Reading
+  worded zero rs s d at = outside
+  worded (suc f) rs s d at =
+      elim (same (slice s at (runEnd Word s at)) (78 ∷ 111 ∷ 116 ∷ [])) [
+        | true ↦ negated f rs s d (runEnd Word s at)
+        | false ↦
+            elim (same (slice s at (runEnd Word s at)) (77 ∷ [])) [
+              | true ↦
+                  elim (eqb (next s (runEnd Word s at)) 91) [
+                    | true ↦ enclosed f rs s d 93 (skip s (runEnd Word s at) + 1)
+                    | false ↦ outside
+                  ]
+              | false ↦ ofReference (referenceAt rs s at)
+            ]
+      ]
+
+  -- "a Not is open to its operand's end"
+  pub negated : ℕ → List Named → List ℕ → ℕ → ℕ → Reading
+  negated zero rs s d at = outside
+  negated (suc f) rs s d at = elim (ltb d deepest) [ true ↦ notOf (level f rs s (d + 1) strongest at) | false ↦ outside ]
+
+  pub enclosed : ℕ → List Named → List ℕ → ℕ → ℕ → ℕ → Reading
+  enclosed zero rs s d close at = outside
+  enclosed (suc f) rs s d close at =
+      elim (ltb d deepest) [ true ↦ closed s close (level f rs s (d + 1) weakest at) | false ↦ outside ]
+
+-- enough for every call that a field can lead to: at most ten for each byte
+abbrev pub fuel : List ℕ → ℕ
+fuel s = 10 * length s + 10

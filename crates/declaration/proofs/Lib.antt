@@ -1,3 +1,2 @@
-mod Passes
 pub mod Fields
 mod Declarations

@@ -2,5 +2,4 @@ pub mod Limits
 pub mod Faults
 pub mod Rows
 pub mod Lines
-pub mod Targets
 pub mod Stored

@@ -20,12 +20,12 @@ use Rattle.code.specs.Readings.{Reading, read, outside}
 use Rattle.expression.specs.Expression.{expression, Destination, destination}
 use Rattle.expression.specs.Formed.{Registers, Accepted, Reads, FormedDestination}
 use Rattle.expression.proofs.Formed.{expression-formed, destination-formed}
-use Rattle.declaration.specs.declared.targets.Target.{Target}
-use Rattle.declaration.specs.declared.targets.Target.the-variants.{Passes, Missing}
+use Rattle.targets.specs.declared.Target.{Target}
+use Rattle.targets.specs.declared.Target.the-variants.{Passes, Missing}
 use Rattle.declaration.specs.Rows.{Row, does, goes, rowPieces, Description}
 use Rattle.declaration.specs.Limits.{mostBytes, mostRegisters, mostRows, mostLabels, allPieces}
 use Rattle.declaration.specs.Lines.{regWord, doWord, goWord, atWord, Progress, Step, refused, next, widthOf, endOf, isWidth, isNewName, addRegister, regLine, isNewLabel, addLabel, atLine}
-use Rattle.declaration.specs.Targets.{isAt, isRow, further, passes}
+use Rattle.targets.specs.Targets.{isAt, isRow, further, passes}
 use Rattle.row.specs.Lines.{addRow, isSomewhere, RowReading, formed, unformed, doRow, withRow, doLine, rowsPassed, missingAt, goRow, goLine}
 use Rattle.description.specs.Description.{isFit, readLine, Answer, accepted, turnedDown, header, nothing, hasRun, finished, readLines, readText}
 use Rattle.description.specs.Formed.{FormedRow, FormedRows, Lands, Lower, piecesOf, Formed, labelsIn, Keeps}

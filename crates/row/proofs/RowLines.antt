@@ -25,11 +25,11 @@ use Rattle.declaration.specs.declared.lines.Progress as code
 use Rattle.declaration.specs.declared.lines.Status.{Status}
 use Rattle.declaration.specs.declared.lines.Status.the-variants.{Goes, Refused}
 use Rattle.declaration.specs.declared.lines.Step as taken
-use Rattle.declaration.specs.declared.targets.Target.{Target}
+use Rattle.targets.specs.declared.Target.{Target}
 use Rattle.declaration.specs.Rows.{Row, goes, rowPieces}
 use Rattle.declaration.specs.Limits.{mostRows, allPieces}
 use Rattle.declaration.specs.Lines.{Progress, Step, refused, next}
-use Rattle.declaration.specs.Targets.{passes}
+use Rattle.targets.specs.Targets.{passes}
 use Rattle.declaration.specs.Stored.{progressOf, Within, Plain}
 use Rattle.row.specs.Lines.{addRow, RowReading, formed, unformed, doRow, withRow, doLine, rowsPassed, missingAt, goRow, goLine}
 use Rattle.row.specs.Cells.{rowCells, goCells}

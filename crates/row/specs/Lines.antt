@@ -12,12 +12,12 @@ use Rattle.names.specs.Names.{isName}
 use Rattle.code.specs.Readings.{Reading, read, outside}
 use Rattle.expression.specs.Expression.{expression, Destination, toRegister, toPart, toMemory, nowhere, destination}
 use Rattle.declaration.specs.declared.faults.Fault.the-variants.{Line, Expression, Label, Limit}
-use Rattle.declaration.specs.declared.targets.Target.{Target}
-use Rattle.declaration.specs.declared.targets.Target.the-variants.{Passes, Missing}
+use Rattle.targets.specs.declared.Target.{Target}
+use Rattle.targets.specs.declared.Target.the-variants.{Passes, Missing}
 use Rattle.declaration.specs.Rows.{Row, does, goes, rowPieces}
 use Rattle.declaration.specs.Limits.{mostRows, allPieces}
 use Rattle.declaration.specs.Lines.{Progress, Step, refused, next}
-use Rattle.declaration.specs.Targets.{passes}
+use Rattle.targets.specs.Targets.{passes}
 
 -- "the .. 129th row .. or 1,025th piece"
 unfoldable pub addRow : Progress → Row → ℕ → Step

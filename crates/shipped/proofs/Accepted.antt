@@ -16,7 +16,7 @@ use Rattle.code.specs.Readings.{limited, ofReference, ofConstant, notOf, closed
 use Rattle.grammar.specs.Grammar.{level}
 use Rattle.expression.specs.Expression.{whole, expression, ofName, ofAddress, memoryAt, destination}
 use Rattle.declaration.specs.Lines.{addRegister, regLine, addLabel, atLine}
-use Rattle.declaration.specs.Targets.{passes}
+use Rattle.targets.specs.Targets.{passes}
 use Rattle.row.specs.Lines.{addRow, doRow, withRow, doLine, goRow, goLine}
 use Rattle.description.specs.Description.{accepted, finished, readLine, readLines, readText}
 use Rattle.machine.specs.State.{widths}

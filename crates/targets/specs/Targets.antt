@@ -6,9 +6,9 @@ use mathlib.Core.List.{List, [], _∷_}
 use Rattle.characters.specs.Characters.{same}
 use Rattle.fields.specs.Fields as text
 use Rattle.fields.specs.Fields.{field}
-use Rattle.declaration.specs.declared.targets.Target.{Target}
-use Rattle.declaration.specs.declared.targets.Target.the-variants.{Passes, Missing}
+use Rattle.targets.specs.declared.Target.{Target}
+use Rattle.targets.specs.declared.Target.the-variants.{Passes, Missing}
 use Rattle.declaration.specs.Lines.{doWord, goWord, atWord}
 
 -- whether a line is the `at` line of a label, and whether it is a row
 abbrev pub isAt : List ℕ → List ℕ → Bool

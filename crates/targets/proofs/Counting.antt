@@ -9,9 +9,9 @@ use native.Mathlib.Omega.{arith}
 use lib.ListN.{length}
 use Rattle.fields.specs.Fields.{lineFeed, before, after, Line, lines, firstLine}
 use Rattle.fields.proofs.Lines.{first-line, no-line}
-use Rattle.declaration.specs.declared.targets.Target.{Target}
-use Rattle.declaration.specs.declared.targets.Target.the-variants.{Passes, Missing}
-use Rattle.declaration.specs.Targets.{isAt, isRow, further, passes}
+use Rattle.targets.specs.declared.Target.{Target}
+use Rattle.targets.specs.declared.Target.the-variants.{Passes, Missing}
+use Rattle.targets.specs.Targets.{isAt, isRow, further, passes}
 
 pub from-none : (t : Target) → t ≡ further 0 t
 from-none (Passes n) = ap Passes (sym (zero-add n))

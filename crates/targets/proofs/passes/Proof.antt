@@ -6,11 +6,11 @@ use Prim.Native.Nat.{ℕ, _+_, _≤_, _<_}
 use native.Mathlib.Omega.{arith}
 use lib.ListN.{length, length-drop}
 use Rattle.fields.specs.Fields.{lineFeed, until, after, Line, lines}
-use Rattle.declaration.specs.Targets.{isAt, isRow, further, passes}
-use Rattle.declaration.proofs.Passes.{from-none, arrived, past-row, past-other, nowhere}
+use Rattle.targets.specs.Targets.{isAt, isRow, further, passes}
+use Rattle.targets.proofs.Counting.{from-none, arrived, past-row, past-other, nowhere}
 use borrow.Author.Needs.{needs}
-use Rattle.declaration.proofs.targets.passes.Statement.{statement}
-use Rattle.declaration.proofs.targets.passes.Tie as tie
+use Rattle.targets.proofs.passes.Statement.{statement}
+use Rattle.targets.proofs.passes.Tie as tie
 
 -- what follows a line is shorter
 shorter : (s t : List ℕ) → 0 < length s → t ≡ after lineFeed s → length t < length s

@@ -27,7 +27,8 @@ use Rattle.declaration.specs.Limits.{mostBytes, mostRegisters, mostRows, mostLa
 use Rattle.declaration.specs.Lines.{regWord, doWord, goWord, atWord, Progress, Step, refused, next, widthOf, endOf, isWidth, isNewName, addRegister, regLine, isNewLabel, addLabel, atLine}
 use Rattle.targets.specs.Targets.{isAt, isRow, further, passes}
 use Rattle.row.specs.Lines.{addRow, isSomewhere, RowReading, formed, unformed, doRow, withRow, doLine, rowsPassed, missingAt, goRow, goLine}
-use Rattle.description.specs.Description.{isFit, readLine, Answer, accepted, turnedDown, header, nothing, hasRun, finished, readLines, readText}
+use Rattle.line.specs.Line.{isFit, readLine}
+use Rattle.description.specs.Description.{Answer, accepted, turnedDown, header, nothing, hasRun, finished, readLines, readText}
 use Rattle.description.specs.Formed.{FormedRow, FormedRows, Lands, Lower, piecesOf, Formed, labelsIn, Keeps}
 
 -- a first word is one of them

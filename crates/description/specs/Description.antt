@@ -5,48 +5,22 @@ use mathlib.Core.Bool.{Bool, true, false, _&&_}
 use mathlib.Core.List.{List, [], _∷_}
 use lib.Dec.{eqb, leb, ltb}
 use lib.ListN.{length}
-use Rattle.characters.specs.Characters.{same, run}
+use Rattle.characters.specs.Characters.{same}
 use Rattle.fields.specs.Fields as text
-use Rattle.fields.specs.Fields.{lineFeed, until, before, after, lines, field}
+use Rattle.fields.specs.Fields.{lineFeed, until, before, after, lines}
 use Rattle.names.specs.Names.{Named, find}
-use Rattle.characters.specs.declared.Class.the-variants.{Printable}
 use Rattle.bit_parts.specs.References.{widthIn}
 use Rattle.declaration.specs.declared.faults.Fault.{Fault}
 use Rattle.declaration.specs.declared.faults.Fault.the-variants.{Size, Header, Line, Label, Run}
 use Rattle.declaration.specs.Rows.{Description}
-use Rattle.declaration.specs.Limits.{mostBytes, longestLine}
-use Rattle.declaration.specs.Lines.{Progress, refused, next, regWord, doWord, goWord, atWord, Step, regLine, atLine}
-use Rattle.row.specs.Lines.{goLine, doLine}
+use Rattle.declaration.specs.Limits.{mostBytes}
+use Rattle.declaration.specs.Lines.{Progress, refused, next}
+use Rattle.line.specs.Line.{readLine}
 
 -- "The answer is the number and line."
 pub data Answer : Type 0 where
   accepted : Description → Answer
   turnedDown : Fault → ℕ → Answer
-
--- "a line of more than 200 bytes, its LF not counted; no LF after the last line; a byte other than 32 to 126 or TAB"
-abbrev pub isFit : text.Line → Bool
-isFit l = l .ended && leb (length (l .bytes)) longestLine && eqb (run Printable (l .bytes)) (length (l .bytes))
-
--- line n, above the lines below it
-unfoldable pub readLine : Progress → ℕ → List text.Line → text.Line → Step
-readLine p n below l =
-    elim (isFit l) [
-      | true ↦
-          elim (same (field 0 (l .bytes)) regWord) [
-            | true ↦ regLine p (l .bytes)
-            | false ↦
-                elim (same (field 0 (l .bytes)) doWord) [
-                  | true ↦ doLine p (l .bytes)
-                  | false ↦
-                      elim (same (field 0 (l .bytes)) goWord) [
-                        | true ↦ goLine p n below (l .bytes)
-                        | false ↦
-                            elim (same (field 0 (l .bytes)) atWord) [ true ↦ atLine p (l .bytes) | false ↦ refused Line ]
-                      ]
-                ]
-          ]
-      | false ↦ refused Line
-    ]
 
 abbrev pub runName : List ℕ
 runName = 82 ∷ 85 ∷ 78 ∷ []

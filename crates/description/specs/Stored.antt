@@ -3,8 +3,8 @@
 use mathlib.Core.Path.{_≡_}
 use mathlib.Core.Bool.{false}
 use mathlib.Core.List.{List}
-use Prim.Native.Nat.{ℕ, _-_, _≤_}
-use lib.ListN.{length, drop}
+use Prim.Native.Nat.{ℕ}
+use lib.ListN.{length}
 use lib.Seq.{sets}
 use Rattle.names.specs.Names.{entries, none}
 use Rattle.declaration.specs.declared.lines.Progress as progress
@@ -26,11 +26,6 @@ answerBy (verdict.Refused f n) d = turnedDown f n
 abbrev pub Finishes : List ℕ → progress.Progress → ℕ → Verdict → Type 0
 Finishes text q n v =
     (rs : List Row) → finished (progressOf text q rs) n ≡ answerBy v (record { registers = entries text (q .registers); rows = rs })
-
--- what is left of a text
-pub record Rest (text rest : List ℕ) : Type 0 where
-  pub is : rest ≡ drop (length text - length rest) text
-  pub fits : length rest ≤ length text
 
 -- the code's numbers before the first line
 abbrev pub unread : progress.Progress

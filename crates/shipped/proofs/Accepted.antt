@@ -18,7 +18,8 @@ use Rattle.expression.specs.Expression.{whole, expression, ofName, ofAddress, m
 use Rattle.declaration.specs.Lines.{addRegister, regLine, addLabel, atLine}
 use Rattle.targets.specs.Targets.{passes}
 use Rattle.row.specs.Lines.{addRow, doRow, withRow, doLine, goRow, goLine}
-use Rattle.description.specs.Description.{accepted, finished, readLine, readLines, readText}
+use Rattle.description.specs.Description.{accepted, finished, readLines, readText}
+use Rattle.line.specs.Line.{readLine}
 use Rattle.machine.specs.State.{widths}
 use Rattle.evaluator.specs.Evaluate.{widthsOf}
 use Rattle.shipped.specs.Text.{shippedText}

@@ -1,4 +1,4 @@
--- `reader::is_fit`: the three tests.
+-- `line::is_fit`: the three tests.
 use mathlib.Core.Path.{ap, _∙_}
 use mathlib.Core.Bool.{_&&_}
 use Prim.Native.Nat.{ℕ}
@@ -10,8 +10,8 @@ use Rattle.fields.proofs.Lines.{before-length}
 use Rattle.characters.proofs.Runs.{from-start}
 use Rattle.declaration.specs.Limits.{longestLine}
 use borrow.Author.Needs.{needs}
-use Rattle.description.proofs.reader.is_fit.Statement.{statement}
-use Rattle.description.proofs.reader.is_fit.Tie as tie
+use Rattle.line.proofs.is_fit.Statement.{statement}
+use Rattle.line.proofs.is_fit.Tie as tie
 
 run-end-requires : tie.Need-run-end-requires
 run-end-requires c κs = search needs

@@ -1,4 +1,4 @@
--- `reader::read_line`: by the first word.
+-- `line::read_line`: by the first word.
 use mathlib.Core.Path.{sym, ap, _∙_}
 use mathlib.Core.List.{List}
 use Prim.Native.Nat.{ℕ}
@@ -10,10 +10,10 @@ use Rattle.declaration.specs.Lines.{regWord, atWord}
 use Rattle.declaration.proofs.Fields.{after-le}
 use Rattle.row.proofs.RowLines.{takes-plain}
 use borrow.Author.Tests.{not-true, not-false}
-use Rattle.description.proofs.Texts.{line-stands, line-fits, fit-length, comes-unfit, comes-reg, comes-do, comes-go, comes-at, comes-unknown}
+use Rattle.line.proofs.FirstWords.{line-stands, line-fits, fit-length, comes-unfit, comes-reg, comes-do, comes-go, comes-at, comes-unknown}
 use borrow.Author.Needs.{needs}
-use Rattle.description.proofs.reader.read_line.Statement.{statement}
-use Rattle.description.proofs.reader.read_line.Tie as tie
+use Rattle.line.proofs.read_line.Statement.{statement}
+use Rattle.line.proofs.read_line.Tie as tie
 
 part-before-requires : tie.Need-part-before-requires
 part-before-requires c κs = search needs

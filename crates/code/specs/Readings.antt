@@ -1,7 +1,7 @@
 -- What the grammar reads: a tree and the place after it, or nothing within the rules; and what each form of an operand or an operator makes of
 -- what was read.
 -- Assumes nothing.
-use Prim.Native.Nat.{ℕ, _+_, _-_}
+use Prim.Native.Nat.{ℕ, _+_}
 use mathlib.Core.Bool.{true, false}
 use mathlib.Core.List.{List}
 use lib.Dec.{eqb, leb}

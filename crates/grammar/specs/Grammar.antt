@@ -2,7 +2,7 @@
 -- "Spaces may stand between tokens in an expression or destination only, not at its ends."
 -- Each call of the grammar lowers the number f, which only bounds how deep the calls go: see `fuel`.
 -- Assumes nothing.
-use Prim.Native.Nat.{ℕ, zero, suc, _+_, _-_, _*_}
+use Prim.Native.Nat.{ℕ, zero, suc, _+_, _*_}
 use mathlib.Core.Bool.{true, false}
 use mathlib.Core.List.{List, [], _∷_}
 use lib.Dec.{eqb, ltb}

@@ -1,7 +1,7 @@
 -- The entry's laws: what the reader's tables, the checks and the run over the tables come to, by the definitions.
 -- Assumes nothing.
 use mathlib.Core.Path.{_≡_, refl, sym, ap, subst, _∙_}
-use mathlib.Core.Bool.{Bool, true, false, _&&_}
+use mathlib.Core.Bool.{Bool, true, false}
 use mathlib.Core.List.{List, [], _∷_, _++_, map}
 use Prim.Native.Nat.{ℕ, zero, suc, _+_, _*_, _%_, _≤_, _<_}
 use native.Mathlib.Nat.{mod-eq-of-lt}
@@ -9,10 +9,10 @@ use native.Mathlib.Omega.{arith}
 use lib.Dec.{eqb, ltb}
 use lib.ListN.{length, getD, take, drop, List·getD-map, List·getD-eq-default}
 use lib.Seq.{sets}
-use borrow.Author.Tests.{ltb-true, ltb-false, lt-ltb, le-ltb}
+use borrow.Author.Tests.{ltb-true, ltb-false}
 use Rattle.word.specs.Choice.{on, pick, choose}
 use Rattle.word.specs.Word.{widest, fits}
-use Rattle.state.specs.Limits.{memoryWords, rowPlaces}
+use Rattle.state.specs.Limits.{rowPlaces}
 use Rattle.state.specs.Refusals.{orElse}
 use Rattle.state.specs.Refusals as state
 use Rattle.state.specs.Checks.{firstUnfit, checkMemory, checkRegisters, checkBudget, checkState, checkRowList}
@@ -33,17 +33,18 @@ use Rattle.declaration.specs.Limits.{mostRows}
 use Rattle.declaration.specs.Rows.{Description}
 use Rattle.declaration.specs.declared.faults.Fault.{Fault}
 use Rattle.row.specs.Cells as row
-use Rattle.description.specs.Description.{accepted, turnedDown, runName, hasRun, readText}
+use Rattle.description.specs.Description.{accepted, turnedDown, runName, readText}
 use Rattle.description.specs.Formed.{Formed}
-use Rattle.evaluator.specs.Value.{State}
+use Rattle.value.specs.Value.{State}
 use Rattle.evaluator.specs.Cycle.{Cycle, cycle}
 use Rattle.evaluator.specs.Run.{Run, running, ended, runFrom, run}
-use Rattle.evaluator.specs.Evaluate.{Report, refused, finished, widthsOf, check, evaluateOf, evaluate, outcomeOf, report}
+use Rattle.evaluator.specs.Evaluate.{refused, finished, widthsOf, check, evaluateOf, evaluate, outcomeOf, report}
 use Rattle.evaluator.specs.declared.Outcome.the-variants.{Ran}
 use Rattle.evaluator.specs.declared.run.Course as course
-use Rattle.evaluator.specs.Fitting.{registerPlaces}
-use Rattle.evaluator.specs.Fitting as fitting
-use Rattle.evaluator.specs.Stored.{codePlaces, turning, runAt, stopped, coursingFrom, coursing, Coursed, widthAt, padded, checkPadded}
+use Rattle.value.specs.Fitting.{registerPlaces}
+use Rattle.value.specs.Fitting as fitting
+use Rattle.value.specs.Words.{codePlaces}
+use Rattle.evaluator.specs.Stored.{turning, runAt, stopped, coursingFrom, coursing, Coursed, widthAt, padded, checkPadded}
 use Rattle.evaluator.proofs.Cycles.{cycle-fits}
 use Rattle.evaluator.proofs.Tables.{cycle-is}
 use Rattle.evaluator.proofs.Padding.{padded-at, padded-past}
@@ -202,6 +203,3 @@ finish x t memory list rows rows′ k e =
     ∙ ap (λ (n : ℕ). outcomeOf (Ran (t .reason) (t .steps) n) (x .state .registers) (x .state .memory) (x .acted ++ drop (length (x .acted)) rows)) (k .count-is)
     ∙ ap (λ (n : ℕ). outcomeOf (Ran (t .reason) n (length (x .acted))) (x .state .registers) (x .state .memory) (x .acted ++ drop (length (x .acted)) rows)) (k .steps-are)
     ∙ ap (λ (w : Reason). outcomeOf (Ran w (x .steps) (length (x .acted))) (x .state .registers) (x .state .memory) (x .acted ++ drop (length (x .acted)) rows)) (k .reason-is)
-
-pub coursed-as : {x y : Run} {t : course.Course} {memory list : List ℕ} → x ≡ y → Coursed x t memory list → Coursed y t memory list
-coursed-as {x} {y} {t} {memory} {list} e k = subst (λ (z : Run). Coursed z t memory list) e k

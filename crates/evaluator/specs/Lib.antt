@@ -1,6 +1,3 @@
-pub mod Value
-pub mod Fitting
-pub mod Words
 pub mod Cycle
 pub mod Rising
 pub mod Run

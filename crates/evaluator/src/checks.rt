@@ -1,10 +1,9 @@
 // What is tried of a state before its run: 11 to 15.
-use crate::Registers;
 use names::Dictionary;
 use state::Verdict;
+use turn::Registers;
 ghost use mathlib.Core.Path.{_≡_};
 ghost use Prim.Native.Nat.{ℕ, _≤_};
-ghost use lib.ListN.{getD};
 ghost use Rattle.word.specs.Word.{widest};
 ghost use Rattle.state.specs.Refusals.{orElse};
 ghost use Rattle.state.specs.Checks.{checkRowList};

@@ -1,25 +1,25 @@
 // The evaluator: runs a description's rows, cycle by cycle, and lists the rows that acted.
 mod checks;
 mod cycle;
-mod rows;
 mod run;
-mod values;
 
 use code::CODE_PLACES;
 use declaration::faults::Fault;
 use description::reader;
+use plan::PLAN_PLACES;
 use row::limits::ROWS;
 use row::limits::TABLE_CELLS;
 use state::Reason;
 use state::Refusal;
 use state::Verdict;
+use turn::Registers;
 ghost use mathlib.Core.Path.{_≡_};
-ghost use Rattle.evaluator.specs.Evaluate.{report, evaluate as evaluation};
-
-// The values of a description's registers, by their numbers; a place without a register holds 0.
-pub struct Registers {
-    pub values: [u16; 16],
-}
+ghost use Prim.Native.Nat.{_≤_};
+ghost use lib.ListN.{length};
+ghost use Rattle.state.specs.Limits.{memoryWords};
+ghost use Rattle.declaration.specs.Limits.{mostRows};
+ghost use Rattle.evaluator.specs.Stored.{coursing};
+ghost use Rattle.evaluator.specs.Evaluate.{report, finished, evaluate as evaluation};
 
 // What came of a call.
 pub enum Outcome {
@@ -35,6 +35,45 @@ pub enum Outcome {
 pub struct Answer {
     pub registers: Registers,
     pub outcome: Outcome,
+}
+
+// Runs rows that are read on a state that fits, and lists those that acted in the last cycle.
+fn run_rows(
+    code: &[u16; CODE_PLACES],
+    table: &[u16; TABLE_CELLS],
+    count: usize,
+    place: usize,
+    registers: Registers,
+    memory: &mut [u16],
+    budget: u64,
+    rows: &mut [u8],
+) -> Answer
+    requires { ⌜ count ≤ mostRows ⌝ ∗ ⌜ length (now memory) ≡ memoryWords ⌝ ∗ ⌜ mostRows ≤ length (now rows) ⌝ }
+    ensures { λ r. ⌜ report r (now (memory .exit)) (now (rows .exit))
+        ≡ finished (coursing (now (code .entry)) (now (table .entry)) count place budget (record { registers = registers .values; memory = now (memory .entry) }))
+        (now (rows .entry)) ⌝ }
+{
+    let mut plan = [0u16; PLAN_PLACES];
+    plan::plan_rows(code, table, count, &mut plan);
+    let mut list = [0u8; ROWS];
+    let end = run::run(
+        &plan,
+        code,
+        table,
+        count,
+        place,
+        registers,
+        memory,
+        budget,
+        &mut list,
+    );
+    run::put_rows(rows, &list, end.listed);
+    let reason = end.reason;
+    let after = end.registers;
+    Answer {
+        registers: after,
+        outcome: Outcome::Ran(reason, end.steps, end.listed),
+    }
 }
 
 // Runs a description on a caller's memory and registers, and lists the rows that acted in the last cycle.
@@ -66,8 +105,7 @@ pub fn evaluate(
                 },
                 Verdict::Fit => {
                     let place = names::place_of(text, known, b"RUN");
-                    let mut list = [0u8; ROWS];
-                    let end = run::run(
+                    run_rows(
                         &code,
                         &table,
                         read.rows,
@@ -75,15 +113,8 @@ pub fn evaluate(
                         registers,
                         memory,
                         budget,
-                        &mut list,
-                    );
-                    run::put_rows(rows, &list, end.listed);
-                    let reason = end.reason;
-                    let after = end.registers;
-                    Answer {
-                        registers: after,
-                        outcome: Outcome::Ran(reason, end.steps, end.listed),
-                    }
+                        rows,
+                    )
                 }
             }
         }

@@ -2,7 +2,7 @@
 use crate::numbers;
 use crate::reading;
 use evaluator::Outcome;
-use evaluator::Registers;
+use turn::Registers;
 ghost use mathlib.Core.Path.{_≡_};
 ghost use Rattle.guavachisel.specs.Evaluation.{Evaluated};
 

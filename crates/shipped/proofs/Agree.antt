@@ -14,7 +14,7 @@ use Rattle.pdp8.specs.Run as steps
 use Rattle.emulator.specs.Emulate as emulator
 use Rattle.emulator.specs.Emulate.{emulate}
 use Rattle.description.specs.Description as text
-use Rattle.evaluator.specs.Value as rows
+use Rattle.value.specs.Value as rows
 use Rattle.evaluator.specs.Run as cycles
 use Rattle.evaluator.specs.Evaluate as evaluator
 use Rattle.evaluator.specs.Evaluate.{evaluate, evaluateOf, check}

@@ -12,8 +12,8 @@ use Rattle.machine.specs.State.{State}
 use Rattle.code.specs.Tree.{Expr}
 use Rattle.expression.specs.Expression.{Destination}
 use Rattle.declaration.specs.Rows.{Row, does, goes}
-use Rattle.evaluator.specs.Value as rows
-use Rattle.evaluator.specs.Value.{value, store}
+use Rattle.value.specs.Value as rows
+use Rattle.value.specs.Value.{value, store}
 use Rattle.shipped.proofs.Held.{Work, Fit, held}
 use Rattle.shipped.proofs.Plain.{plain, plain-drop}
 

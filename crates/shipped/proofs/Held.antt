@@ -5,7 +5,7 @@ use Prim.Native.Nat.{ℕ, _^_, _<_}
 use lib.ListN.{getD}
 use Rattle.word.specs.Word.{wordBits}
 use Rattle.machine.specs.State.{State}
-use Rattle.evaluator.specs.Value as rows
+use Rattle.value.specs.Value as rows
 
 -- the working registers, and the places past them
 pub record Work : Type 0 where

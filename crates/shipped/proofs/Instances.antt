@@ -14,7 +14,7 @@ use Rattle.pdp8.specs.Run as steps
 use Rattle.pdp8.proofs.Runs.{halted-at-entry}
 use Rattle.emulator.specs.Emulate as emulator
 use Rattle.emulator.specs.Emulate.{emulate}
-use Rattle.evaluator.specs.Value as rows
+use Rattle.value.specs.Value as rows
 use Rattle.evaluator.specs.Cycle.{cycle}
 use Rattle.evaluator.specs.Run as cycles
 use Rattle.evaluator.specs.Run.{running}

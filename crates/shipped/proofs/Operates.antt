@@ -18,7 +18,7 @@ use Rattle.operators.specs.declared.Operator.the-variants.{RotateLeft, RotateRi
 use Rattle.code.specs.Tree.{register, bitPart, constant, rotated}
 use Rattle.expression.specs.Expression.{toRegister}
 use Rattle.declaration.specs.Rows.{Row, does, goes}
-use Rattle.evaluator.specs.Value as rows
+use Rattle.value.specs.Value as rows
 use Rattle.operate.specs.Operate as machine
 use Rattle.operate.specs.Operate.{cleared, linkCleared, complemented, linkComplemented, increased, changed, group1, group3, operate}
 use Rattle.operate.proofs.Changes.{cleared-lt, linkCleared-lt, complemented-lt, changed-lt}

@@ -7,7 +7,7 @@ use Prim.Native.Nat.{ℕ, zero, suc}
 use lib.ListN.{drop}
 use Rattle.word.specs.Choice.{on}
 use Rattle.declaration.specs.Rows.{Row, does, goes}
-use Rattle.evaluator.specs.Value.{State, value, store}
+use Rattle.value.specs.Value.{State, value, store}
 use Rattle.evaluator.specs.Cycle.{Cycle, noted, cycleFrom}
 
 unfoldable pub plain : List Row → ℕ → State → State

@@ -13,7 +13,7 @@ use Rattle.pdp8.proofs.Keeps.{step-good}
 use Rattle.characters.specs.Characters.{same}
 use Rattle.names.specs.Names.{find}
 use Rattle.description.specs.Description.{runName}
-use Rattle.evaluator.specs.Value as rows
+use Rattle.value.specs.Value as rows
 use Rattle.evaluator.specs.Cycle.{Cycle, cycle}
 use Rattle.evaluator.specs.Run as cycles
 use Rattle.evaluator.specs.Run.{running}

@@ -18,8 +18,8 @@ use Rattle.machine.proofs.Lac.{ac-lt}
 use Rattle.code.specs.Tree.{Expr, constant}
 use Rattle.expression.specs.Expression.{toRegister}
 use Rattle.declaration.specs.Rows.{Row, does}
-use Rattle.evaluator.specs.Value as rows
-use Rattle.evaluator.specs.Value.{value}
+use Rattle.value.specs.Value as rows
+use Rattle.value.specs.Value.{value}
 use Rattle.operate.specs.Operate.{cleared, sign, skipsPlain, skipsReversed, skips, switched, group2}
 use Rattle.shipped.specs.Shipped.{rows·group2, rows·inverted, rows·decided}
 use Rattle.shipped.proofs.Held.{Work, Fit, held, skipping, skipping-fit}

@@ -17,7 +17,7 @@ use Rattle.state.proofs.Accepted.{acceptable-memory, fitting-registers, within-
 use Rattle.machine.specs.declared.Machine.{Machine}
 use Rattle.machine.specs.State.{widths, values, start, Good}
 use Rattle.emulator.proofs.Starts.{good-checked}
-use Rattle.evaluator.specs.Value as rows
+use Rattle.value.specs.Value as rows
 use Rattle.evaluator.specs.Evaluate.{widthsOf, check}
 use Rattle.shipped.specs.Shipped.{shipped}
 use Rattle.shipped.specs.Claim.{Start}

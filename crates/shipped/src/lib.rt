@@ -1,6 +1,6 @@
 // The shipped description of the PDP-8, and both programs beside each other.
-use evaluator::Registers;
 use machine::Machine;
+use turn::Registers;
 ghost use mathlib.Core.Path.{_≡_};
 ghost use Rattle.evaluator.specs.Evaluate.{report, evaluate};
 ghost use Rattle.emulator.specs.Emulate as emulation;

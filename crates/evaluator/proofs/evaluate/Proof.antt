@@ -1,15 +1,15 @@
--- `evaluator::evaluate`: the text, the checks, then the run over the tables.
-use mathlib.Core.Path.{_≡_, refl, sym, ap, _∙_}
-use Prim.Native.Nat.{ℕ}
+-- `evaluator::evaluate`: the text, the checks, then the run of the rows.
+use mathlib.Core.Path.{refl, sym, ap, _∙_}
 use native.Mathlib.Omega.{arith}
 use Rattle.names.specs.Names.{entries}
 use Rattle.declaration.specs.Rows.{Description}
 use Rattle.description.specs.declared.reader.Verdict as reader
 use Rattle.description.specs.Stored.{answerBy}
 use Rattle.description.proofs.Formed.{accepted-keeps}
-use Rattle.evaluator.specs.Value.{State}
-use Rattle.evaluator.specs.Run.{run}
-use Rattle.evaluator.proofs.Entries.{widths-narrow, checked, check-fits, check-room, run-read, tables-run, text-refused, state-refused, evaluated, finish, coursed-as}
+use Rattle.value.specs.Value.{State}
+use Rattle.evaluator.specs.Run.{Run}
+use Rattle.evaluator.specs.Evaluate.{finished}
+use Rattle.evaluator.proofs.Entries.{widths-narrow, checked, check-fits, check-room, run-read, tables-run, text-refused, state-refused, evaluated}
 use borrow.Author.Needs.{needs}
 use Rattle.evaluator.proofs.evaluate.Statement.{statement}
 use Rattle.evaluator.proofs.evaluate.Tie as tie
@@ -46,32 +46,22 @@ slice-aggregate-place-of c = search needs
 place-of-requires : tie.Need-place-of-requires
 place-of-requires c κs = search needs
 
-run-requires : tie.Need-run-requires
-run-requires c κs =
-    let a = c .before .before .before .before .before .before .before .before .before .before .before .before .before .before .before .before .before .before .before .args in
+run-rows-requires : tie.Need-run-rows-requires
+run-rows-requires c κs =
+    let v = c .before .before .before .before .before .before .before .before in
+    let r = v .before .before .before .before .before in
+    let b = r .before .before .before .before .before .before in
+    let a = b .args in
     let text = a .text .now in
-    let known = c .before .before .before .before .before .before .before .before .before .before .before .before .before .read .result .registers in
-    let ans = c .before .before .before .before .before .before .before .before .before .before .before .before .before .read .ensures in
+    let known = r .read .result .registers in
+    let ans = r .read .ensures in
+    let told = v .before .before .before .enum-told .given .1 in
     let d : Description = record { registers = entries text known; rows = ans .rows } in
-    let acc = ans .is ∙ ap (λ (v : reader.Verdict). answerBy v d) (c .before .before .before .before .before .before .before .before .before .before .before .enum-told .given .1) in
+    let acc = ans .is ∙ ap (λ (v : reader.Verdict). answerBy v d) told in
     let formed = accepted-keeps text d acc .formed in
-    let good = sym (checked text known d refl formed (a .registers .values) (a .memory .now) (a .budget) (a .rows .now)) ∙ sym (c .before .before .before .before .before .before .before .before .check .ensures) ∙ c .before .before .before .before .before .before .enum-told2 .given .1 in
-    let f = check-fits d (a .registers .values) (a .memory .now) (a .budget) (a .rows .now) good (let g = c .before .before .before .before .before .before .before .before .before .before .before .before .before .before .before .before .before .before .before .good .1 .1 .0 in search needs) in
-    (omega (arith, ans .rows-are (c .before .before .before .before .before .before .before .before .before .before .before .enum-told .given .1), formed .few-rows), (f .words .size, refl))
-
-put-rows-requires : tie.Need-put-rows-requires
-put-rows-requires c κs =
-    let a = c .before .before .before .before .before .before .before .before .before .before .before .before .before .before .before .before .before .before .before .before .before .before .before .before .args in
-    let text = a .text .now in
-    let known = c .before .before .before .before .before .before .before .before .before .before .before .before .before .before .before .before .before .before .read .result .registers in
-    let ans = c .before .before .before .before .before .before .before .before .before .before .before .before .before .before .before .before .before .before .read .ensures in
-    let d : Description = record { registers = entries text known; rows = ans .rows } in
-    let acc = ans .is ∙ ap (λ (v : reader.Verdict). answerBy v d) (c .before .before .before .before .before .before .before .before .before .before .before .before .before .before .before .before .enum-told .given .1) in
-    let formed = accepted-keeps text d acc .formed in
-    let good = sym (checked text known d refl formed (a .registers .values) (a .memory .now) (a .budget) (a .rows .now)) ∙ sym (c .before .before .before .before .before .before .before .before .before .before .before .before .before .check .ensures) ∙ c .before .before .before .before .before .before .before .before .before .before .before .enum-told2 .given .1 in
-    let k = c .before .before .before .before .run .ensures in
-    let room = check-room d (a .registers .values) (a .memory .now) (a .budget) (a .rows .now) good in
-    (k .few, (omega (arith, k .few, room), k .long))
+    let good = sym (checked text known d refl formed (a .registers .values) (a .memory .now) (a .budget) (a .rows .now)) ∙ sym (v .check .ensures) ∙ c .before .before .before .before .before .before .enum-told2 .given .1 in
+    let f = check-fits d (a .registers .values) (a .memory .now) (a .budget) (a .rows .now) good (let g = b .good .1 .1 .0 in search needs) in
+    (omega (arith, ans .rows-are told, formed .few-rows), (f .words .size, check-room d (a .registers .values) (a .memory .now) (a .budget) (a .rows .now) good))
 
 returns : tie.Need-returns
 returns c =
@@ -103,20 +93,24 @@ same-length-3 c = search needs
 
 returns-3 : tie.Need-returns-3
 returns-3 c =
-    let a = c .before .before .before .before .before .before .before .before .before .before .before .before .before .before .before .before .before .before .before .before .before .before .before .before .before .before .before .before .args in
+    let p = c .before .before .before .before .before .before .before .before .before in
+    let v = p .before .before .before .before in
+    let r = v .before .before .before .before .before in
+    let b = r .before .before .before .before .before .before in
+    let a = b .args in
     let text = a .text .now in
-    let known = c .before .before .before .before .before .before .before .before .before .before .before .before .before .before .before .before .before .before .before .before .before .before .read .result .registers in
-    let ans = c .before .before .before .before .before .before .before .before .before .before .before .before .before .before .before .before .before .before .before .before .before .before .read .ensures in
+    let known = r .read .result .registers in
+    let ans = r .read .ensures in
+    let told = v .before .before .before .enum-told .given .1 in
     let d : Description = record { registers = entries text known; rows = ans .rows } in
-    let acc = ans .is ∙ ap (λ (v : reader.Verdict). answerBy v d) (c .before .before .before .before .before .before .before .before .before .before .before .before .before .before .before .before .before .before .before .before .enum-told .given .1) in
+    let acc = ans .is ∙ ap (λ (v : reader.Verdict). answerBy v d) told in
     let formed = accepted-keeps text d acc .formed in
-    let good = sym (checked text known d refl formed (a .registers .values) (a .memory .now) (a .budget) (a .rows .now)) ∙ sym (c .before .before .before .before .before .before .before .before .before .before .before .before .before .before .before .before .before .check .ensures) ∙ c .before .before .before .before .before .before .before .before .before .before .before .before .before .before .before .enum-told2 .given .1 in
-    let f = check-fits d (a .registers .values) (a .memory .now) (a .budget) (a .rows .now) good (let g = c .before .before .before .before .before .before .before .before .before .before .before .before .before .before .before .before .before .before .before .before .before .before .before .before .before .before .before .before .good .1 .1 .0 in search needs) in
+    let good = sym (checked text known d refl formed (a .registers .values) (a .memory .now) (a .budget) (a .rows .now)) ∙ sym (v .check .ensures) ∙ p .before .before .enum-told2 .given .1 in
+    let f = check-fits d (a .registers .values) (a .memory .now) (a .budget) (a .rows .now) good (let g = b .good .1 .1 .0 in search needs) in
     let s : State = record { registers = a .registers .values; memory = a .memory .now } in
-    let told = c .before .before .before .before .before .before .before .before .before .before .before .before .before .before .before .before .before .before .before .before .enum-told .given .1 in
-    let same = tables-run d formed _ _ _ _ (c .before .before .before .before .before .before .before .before .before .before .before .before .before .before .before .before .before .before .before .before .before .before .read .result .rows) (c .before .before .before .before .before .before .before .before .before .before .before .before .before .place-of .result) (ans .rows-are told) refl refl (ans .code-is told) (ans .table-is told)
-    (run-read text known d refl formed (c .before .before .before .before .before .before .before .before .before .before .before .before .before .place-of .result) (c .before .before .before .before .before .before .before .before .before .before .before .before .before .place-of .ensures)) (a .budget) s f in
-    finish (run d (a .budget) s) (c .before .before .before .before .before .before .before .before .run .result) _ _ (a .rows .now) _ (coursed-as same (c .before .before .before .before .before .before .before .before .run .ensures)) (c .before .before .before .put-rows .ensures)
+    let same = tables-run d formed _ _ _ _ (r .read .result .rows) (p .place-of .result) (ans .rows-are told) refl refl (ans .code-is told) (ans .table-is told)
+    (run-read text known d refl formed (p .place-of .result) (p .place-of .ensures)) (a .budget) s f in
+    c .before .before .before .before .run-rows .ensures ∙ ap (λ (x : Run). finished x (a .rows .now)) same
     ∙ sym (evaluated text (a .registers .values) (a .memory .now) (a .budget) (a .rows .now) d acc good)
 
 pub evaluate-spec : {M : Type 1} → statement M
@@ -131,8 +125,7 @@ evaluate-spec =
     enum-told-2
     slice-aggregate-place-of
     place-of-requires
-    run-requires
-    put-rows-requires
+    run-rows-requires
     returns
     same-length
     returns-2

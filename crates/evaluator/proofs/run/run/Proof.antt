@@ -1,6 +1,6 @@
 -- `evaluator::run::run`: cycle by cycle.
 use mathlib.Core.Path.{refl}
-use mathlib.Core.Logic.{_⊎_, inl, inr}
+use mathlib.Core.Logic.{inl, inr}
 use Prim.Native.Nat.{_-_}
 use native.Mathlib.Omega.{arith}
 use Rattle.evaluator.proofs.Courses.{Going, going-start, going-next, going-spent, going-halted}
@@ -9,23 +9,25 @@ use Rattle.evaluator.proofs.run.run.Statement.{statement}
 use Rattle.evaluator.proofs.run.run.Tie as tie
 
 abbrev Inv-loop : tie.InvT-loop
-Inv-loop code table count place memory₀ budget list₀ q₀ done₀ n₀ memory list q done n =
+Inv-loop plan code table count place memory₀ budget list₀ q₀ done₀ n₀ memory list q done n =
     Going code table count place budget (record { registers = q₀ .values; memory = memory₀ }) done n (record { registers = q .values; memory = memory }) list
 
 abbrev μ-loop : tie.MeasureT-loop
-μ-loop code table count place memory₀ budget list₀ q₀ done₀ n₀ memory list q done n =
+μ-loop plan code table count place memory₀ budget list₀ q₀ done₀ n₀ memory list q done n =
     budget - done
 
 loop-holds : tie.Need-loop-holds Inv-loop μ-loop
 loop-holds c =
-    going-start _ _ _ _ _ _ _ (c .before .pre .1 .0) (c .before .pre .1 .1)
+    going-start _ _ _ _ _ _ _ (c .before .pre .1 .0) (c .before .pre .1 .1 .0)
 
 value-at-requires : tie.Need-value-at-requires Inv-loop μ-loop
 value-at-requires c κs = search needs
 
 cycle-requires : tie.Need-cycle-requires Inv-loop μ-loop
 cycle-requires c κs =
-    (c .before .before .before .before .before .before .before .before .pre .0, (c .before .before .before .before .before .before .loop .inv .size, c .before .before .before .before .before .before .loop .inv .long))
+    let at = c .before .before .before .before .before .before in
+    let b = at .before .before in
+    (b .pre .0, (at .loop .inv .size, (at .loop .inv .long, b .pre .1 .1 .1)))
 
 add-done : tie.Need-add-done Inv-loop μ-loop
 add-done c =

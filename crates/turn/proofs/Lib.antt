@@ -1,0 +1,5 @@
+pub mod Storing
+pub mod OneRow
+pub mod Acts
+mod Planning
+mod Choices

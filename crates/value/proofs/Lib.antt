@@ -1,0 +1,5 @@
+pub mod Remainders
+pub mod Widths
+pub mod Standing
+pub mod Compiled
+mod Words

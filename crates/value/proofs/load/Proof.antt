@@ -1,0 +1,62 @@
+-- `value::load`: kind by kind.
+use Prim.Native.Nat.{_/_}
+use borrow.Author.Tests.{eq-eqb, ne-eqb}
+use Rattle.value.specs.Words.{loaded}
+use Rattle.value.proofs.Remainders.{part-le, quotient-le, narrow-is}
+use borrow.Author.Needs.{needs}
+use Rattle.value.proofs.load.Statement.{statement}
+use Rattle.value.proofs.load.Tie as tie
+
+returns : tie.Need-returns
+unfolding loaded
+returns c =
+    rw (eq-eqb (c .before .args .kind) 2 (c .if1 .taken))
+
+register-value-requires : tie.Need-register-value-requires
+register-value-requires c κs = search needs
+
+returns-2 : tie.Need-returns-2
+unfolding loaded
+returns-2 c =
+    rw (ne-eqb (c .before .before .before .args .kind) 2 (c .before .before .if1 .left), eq-eqb (c .before .before .before .args .kind) 0 (c .if2 .taken)) (narrow-is (search needs) (c .before .register-value .ensures))
+
+cast-result : tie.Need-cast-result
+cast-result c = search needs
+
+power-of-requires : tie.Need-power-of-requires
+power-of-requires c κs = search needs
+
+div-result : tie.Need-div-result
+div-result c = search needs
+
+power-of-requires-2 : tie.Need-power-of-requires-2
+power-of-requires-2 c κs = search needs
+
+rem-result : tie.Need-rem-result
+rem-result c = search needs
+
+cast-result-2 : tie.Need-cast-result-2
+cast-result-2 c =
+    let h = quotient-le (c .before .before .before .register-value .result) (c .before .power-of .result) in
+    let k = part-le (c .before .before .before .register-value .result / c .before .power-of .result) (c .power-of2 .result) in
+    search needs
+
+returns-3 : tie.Need-returns-3
+unfolding loaded
+returns-3 c =
+    rw (ne-eqb (c .before .before .before .before .before .args .kind) 2 (c .before .before .before .before .if1 .left), ne-eqb (c .before .before .before .before .before .args .kind) 0 (c .before .before .if2 .left), narrow-is (search needs) (c .before .before .before .register-value .ensures), c .before .power-of .ensures .is, c .power-of2 .ensures .is)
+
+pub load-spec : {M : Type 1} → statement M
+load-spec =
+    tie.close
+    (tie.spec
+    returns
+    register-value-requires
+    returns-2
+    cast-result
+    power-of-requires
+    div-result
+    power-of-requires-2
+    rem-result
+    cast-result-2
+    returns-3)

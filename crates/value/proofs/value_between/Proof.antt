@@ -1,0 +1,36 @@
+-- `value::value_between` is its definition.
+use native.Mathlib.Omega.{arith}
+use lib.Dec.{leb}
+use borrow.Author.Tests.{leb-true}
+use Rattle.characters.proofs.Tests.{and-left, and-right}
+use Rattle.value.specs.Words.{between}
+use borrow.Author.Needs.{needs}
+use Rattle.value.proofs.value_between.Statement.{statement}
+use Rattle.value.proofs.value_between.Tie as tie
+
+sub-value-of : tie.Need-sub-value-of
+sub-value-of c =
+    leb-true _ _ (and-left _ _ (c .if1 .taken))
+
+cast-value-of : tie.Need-cast-value-of
+cast-value-of c = search needs
+
+value-of-requires : tie.Need-value-of-requires
+value-of-requires c κs =
+    let h = leb-true (c .before .before .args .from) (c .before .before .args .to) (and-left (leb (c .before .before .args .from) (c .before .before .args .to)) (leb (c .before .before .args .to) 4896) (c .if1 .taken)) in
+    let k = leb-true (c .before .before .args .to) 4896 (and-right (leb (c .before .before .args .from) (c .before .before .args .to)) (leb (c .before .before .args .to) 4896) (c .if1 .taken)) in
+    (omega (arith, h, k), c .before .before .pre)
+
+returns : tie.Need-returns
+unfolding between
+returns c =
+    rw (c .before .if1 .taken, between) (c .value-of .ensures)
+
+returns-2 : tie.Need-returns-2
+unfolding between
+returns-2 c =
+    rw (c .if1 .left, between)
+
+pub value-between-spec : {M : Type 1} → statement M
+value-between-spec =
+    tie.close (tie.spec sub-value-of cast-value-of value-of-requires returns returns-2)

@@ -1,0 +1,124 @@
+-- `value::word_value`: kind by kind.
+use borrow.Author.Tests.{eq-eqb, ne-eqb, lt-ltb, le-ltb}
+use lib.ListN.{getD}
+use Rattle.value.specs.Words.{wordValue}
+use borrow.Author.Needs.{needs}
+use Rattle.value.proofs.word_value.Statement.{statement}
+use Rattle.value.proofs.word_value.Tie as tie
+
+mul-kind : tie.Need-mul-kind
+mul-kind c = search needs
+
+element-copy-out-kind : tie.Need-element-copy-out-kind
+element-copy-out-kind c = search needs
+
+add-load : tie.Need-add-load
+add-load c = search needs
+
+mul-load : tie.Need-mul-load
+mul-load c = search needs
+
+element-copy-out-load : tie.Need-element-copy-out-load
+element-copy-out-load c = search needs
+
+add-load-2 : tie.Need-add-load-2
+add-load-2 c = search needs
+
+mul-load-2 : tie.Need-mul-load-2
+mul-load-2 c = search needs
+
+element-copy-out-load-2 : tie.Need-element-copy-out-load-2
+element-copy-out-load-2 c = search needs
+
+add-load-3 : tie.Need-add-load-3
+add-load-3 c = search needs
+
+mul-load-3 : tie.Need-mul-load-3
+mul-load-3 c = search needs
+
+element-copy-out-load-3 : tie.Need-element-copy-out-load-3
+element-copy-out-load-3 c = search needs
+
+load-requires : tie.Need-load-requires
+load-requires c κs = search needs
+
+returns : tie.Need-returns
+unfolding wordValue
+returns c =
+    let k = c .before .before .before .before .before .before .before .args .code .now in
+    let at = c .before .before .before .before .before .before .before .args .at in
+    rw (lt-ltb (getD k at 0) 3 (c .before .before .before .before .if1 .taken)) (c .load .ensures)
+
+cast-result : tie.Need-cast-result
+cast-result c = search needs
+
+mul-result : tie.Need-mul-result
+mul-result c = search needs
+
+shared-slice-read-result : tie.Need-shared-slice-read-result
+shared-slice-read-result c = search needs
+
+add-operate : tie.Need-add-operate
+add-operate c = search needs
+
+mul-operate : tie.Need-mul-operate
+mul-operate c = search needs
+
+element-copy-out-operate : tie.Need-element-copy-out-operate
+element-copy-out-operate c = search needs
+
+add-operate-2 : tie.Need-add-operate-2
+add-operate-2 c = search needs
+
+mul-operate-2 : tie.Need-mul-operate-2
+mul-operate-2 c = search needs
+
+element-copy-out-operate-2 : tie.Need-element-copy-out-operate-2
+element-copy-out-operate-2 c = search needs
+
+operate-requires : tie.Need-operate-requires
+operate-requires c κs = search needs
+
+returns-2 : tie.Need-returns-2
+unfolding wordValue
+returns-2 c =
+    let k = c .before .before .before .before .before .args .code .now in
+    let at = c .before .before .before .before .before .args .at in
+    rw (le-ltb (getD k at 0) 3 (c .before .before .if1 .left), eq-eqb (getD k at 0) 3 (c .before .if2 .taken))
+
+returns-3 : tie.Need-returns-3
+unfolding wordValue
+returns-3 c =
+    let k = c .before .before .before .before .before .before .before .args .code .now in
+    let at = c .before .before .before .before .before .before .before .args .at in
+    rw (le-ltb (getD k at 0) 3 (c .before .before .before .before .if1 .left), ne-eqb (getD k at 0) 3 (c .before .before .before .if2 .left)) (c .operate .ensures)
+
+pub word-value-spec : {M : Type 1} → statement M
+word-value-spec =
+    tie.close
+    (tie.spec
+    mul-kind
+    element-copy-out-kind
+    add-load
+    mul-load
+    element-copy-out-load
+    add-load-2
+    mul-load-2
+    element-copy-out-load-2
+    add-load-3
+    mul-load-3
+    element-copy-out-load-3
+    load-requires
+    returns
+    cast-result
+    mul-result
+    shared-slice-read-result
+    add-operate
+    mul-operate
+    element-copy-out-operate
+    add-operate-2
+    mul-operate-2
+    element-copy-out-operate-2
+    operate-requires
+    returns-2
+    returns-3)

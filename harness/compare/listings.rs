@@ -16,6 +16,12 @@ pub fn input(random: &mut Random) -> Vec<u8> {
         let address = if random.once_in(3) { random.bits(12) } else { 0o200 + n as u16 % 32 };
         text.extend(format!("{:04o}\t{:04o}\n", address, instruction(random)).bytes());
     }
+    if random.once_in(4) {
+        // an instruction early on that rewrites itself: the word shown is the one fetched
+        let place = random.bits(2);
+        let op = *random.pick(&[2, 3]);
+        text.extend(format!("{:04o}\t{:04o}\n", 0o200 + place, op << 9 | 0o200 | place).bytes());
+    }
     if random.once_in(3) {
         let at = random.below(lines + 1) * 10;
         text.splice(at..at, random.pick(&DAMAGES).iter().copied());

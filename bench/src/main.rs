@@ -80,7 +80,7 @@ fn must_agree(what: &str, same: bool) {
 /// One program on every side, in turns: medians of library, SIMH and Rust emulator, library and Rust evaluator.
 fn program_rates(bench: &Bench, program: &Program) -> [f64; 5] {
     let mut rates: [Vec<f64>; 5] = Default::default();
-    let (emulated, evaluated) = (bench.calls(100), bench.calls(10));
+    let (emulated, evaluated) = (bench.calls(100), bench.calls(5));
     for _ in 0..bench.rounds {
         let (library, end) = emulator_rate(entries::emulate, program, emulated, CALL);
         let (rust, rust_end) = emulator_rate(independent::emulate, program, emulated, CALL);
@@ -131,7 +131,7 @@ fn reader(bench: &Bench) {
     println!("\n| reader, megabytes a second | library | Rust | library : Rust | microseconds a text |\n|---|---|---|---|---|");
     for (name, text) in [dense(4096), dense(8192), dense(16384), padded(4096), padded(16384), shipped] {
         let mut rates: [Vec<f64>; 2] = Default::default();
-        let calls = bench.calls(40_000_000 / text.len() as u64);
+        let calls = bench.calls(20_000_000 / text.len() as u64);
         for _ in 0..bench.rounds {
             rates[0].push(reader_rate(entries::read, &text, calls));
             rates[1].push(reader_rate(independent::read, &text, calls));
@@ -148,7 +148,7 @@ fn growth(bench: &Bench) {
     let mut lines = [String::from("| emulate, microseconds a call |"), String::from("| evaluate, microseconds a call |")];
     for budget in [1, 10_000, 100_000, 1_000_000] {
         let mut rates: [Vec<f64>; 2] = Default::default();
-        let calls = if budget == 1 { bench.calls(20_000) } else { bench.calls(10_000_000 / budget) };
+        let calls = if budget == 1 { bench.calls(20_000) } else { bench.calls(4_000_000 / budget) };
         for _ in 0..bench.rounds {
             rates[0].push(emulator_rate(entries::emulate, program, calls, budget).0);
             rates[1].push(evaluator_rate(entries::evaluate, &bench.description, program, calls, budget).0);

@@ -2,6 +2,7 @@
 
 use crate::cases::{Case, EvaluateStart};
 use crate::damage::damage;
+use crate::edges::{edges, Edge};
 use crate::images;
 use crate::limits::{limits, Limit};
 use crate::random::Random;
@@ -11,10 +12,12 @@ use independent::description::description;
 use independent::machine::WIDTHS;
 
 /// An area's name, and how many cases of it one run tries.
-pub const AREAS: [(&str, u64); 8] = [
+pub const AREAS: [(&str, u64); 10] = [
     ("emulate", 50_000),
     ("emulate-state", 12_000),
     ("limits", 0),
+    ("edges", 0),
+    ("words", 4096 * 8),
     ("texts", 40_000),
     ("damaged", 80_000),
     ("damaged-limits", 12_000),
@@ -22,23 +25,38 @@ pub const AREAS: [(&str, u64); 8] = [
     ("shipped", 10_000),
 ];
 pub const LIMITS: usize = 2;
+pub const EDGES: usize = 3;
 /// The listing's cases are made in listings.rs.
-pub const LISTING: usize = 8;
+pub const LISTING: usize = 10;
 
 pub struct Maker {
     pub seed: u64,
     pub shipped: Vec<u8>,
     pub limits: Vec<Limit>,
+    pub edges: Vec<Edge>,
 }
 
 impl Maker {
     pub fn new(seed: u64, shipped: Vec<u8>) -> Maker {
-        Maker { seed, shipped, limits: limits() }
+        Maker { seed, shipped, limits: limits(), edges: edges() }
     }
 
-    /// How many cases an area has; a limit is tried once with each seed.
-    pub fn count(&self, area: usize) -> u64 {
-        if area == LIMITS { self.limits.len() as u64 } else { AREAS[area].1 }
+    /// How many cases an area has, at so many percent of the usual; each limit and edge is tried once.
+    pub fn count(&self, area: usize, percent: u64) -> u64 {
+        match area {
+            LIMITS => self.limits.len() as u64,
+            EDGES => self.edges.len() as u64,
+            _ => AREAS[area].1 * percent / 100,
+        }
+    }
+
+    /// A limit or edge that a case is about: its name, and whether it is passed.
+    pub fn limit(&self, area: usize, case: u64) -> Option<(&'static str, bool)> {
+        match area {
+            LIMITS => Some((self.limits[case as usize].name, self.limits[case as usize].past)),
+            EDGES => Some((self.edges[case as usize].name, self.edges[case as usize].past)),
+            _ => None,
+        }
     }
 
     /// What is compared under one number.
@@ -52,21 +70,23 @@ impl Maker {
                 let limit = &self.limits[case as usize];
                 vec![Case::Known(limit.text.clone(), limit.answer), Case::Evaluate(with_state(r, limit.text.clone()))]
             }
-            3 => {
+            3 => vec![self.edges[case as usize].case.clone()],
+            4 => vec![Case::Emulate(images::one_word(r, (case % 4096) as u16))],
+            5 => {
                 let text = texts::text(r).0;
                 both(r, text)
             }
-            4 => {
+            6 => {
                 let mut text = texts::text(r).0;
                 damage(r, &mut text);
                 both(r, text)
             }
-            5 => {
+            7 => {
                 let mut text = r.pick(&self.limits).text.clone();
                 damage(r, &mut text);
                 both(r, text)
             }
-            6 => vec![bad_evaluation(r)],
+            8 => vec![bad_evaluation(r)],
             _ => vec![Case::Shipped(shipped(r, &self.shipped))],
         }
     }

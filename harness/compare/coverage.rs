@@ -1,6 +1,6 @@
 //! How often each thing that has to be tried was tried: instruction words, refusals, operators, destinations, limits.
 
-use crate::limits;
+use crate::{edges, limits};
 use independent::description::{Description, Row};
 use independent::expression::{Binary, Destination, Expression, Kind};
 use independent::watch::{Event, Watch};
@@ -175,9 +175,9 @@ fn required() -> Vec<String> {
     for thing in ["a register", "a bit part", "a constant", "a memory word", "a rotation of more places than bits", "accepted by read"] {
         names.push(thing.to_string());
     }
-    for limit in limits::NAMES {
+    for limit in limits::NAMES.iter().chain(&edges::NAMES) {
         names.push(format!("one past: {}", limit));
-        if limit != "order of refusals" {
+        if *limit != "order of refusals" {
             names.push(format!("exactly: {}", limit));
         }
     }

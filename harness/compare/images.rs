@@ -89,3 +89,16 @@ pub fn budget(random: &mut Random) -> u64 {
 pub fn start(random: &mut Random) -> Start {
     Start { memory: memory(random), registers: machine(random), budget: budget(random) }
 }
+
+/// One step of one instruction word, from any state that fits.
+pub fn one_word(random: &mut Random, word: u16) -> Start {
+    let mut memory = vec![random.bits(12); 4096];
+    for _ in 0..200 {
+        memory[random.below(4096)] = random.bits(12);
+    }
+    let mut registers = machine(random);
+    registers[0] = *random.pick(&[registers[0], registers[0] & 0o10000, 0o7777, 0o17777]);
+    registers[2] = 1;
+    memory[registers[1] as usize] = word;
+    Start { memory, registers, budget: 1 }
+}

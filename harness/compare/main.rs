@@ -7,6 +7,7 @@ mod areas;
 mod cases;
 mod coverage;
 mod damage;
+mod edges;
 mod entries;
 mod expressions;
 mod images;
@@ -17,7 +18,7 @@ mod shrink;
 mod states;
 mod texts;
 
-use areas::{Maker, AREAS, LIMITS};
+use areas::{Maker, AREAS, EDGES};
 use coverage::Coverage;
 use std::process::exit;
 
@@ -68,9 +69,13 @@ fn fail(area: &str, seed: u64, case: u64, found: &str) -> ! {
 fn compare_area(maker: &Maker, area: usize, range: std::ops::Range<u64>, coverage: &mut Coverage) -> u64 {
     let mut compared = 0;
     for number in range {
-        if area == LIMITS {
-            let limit = &maker.limits[number as usize];
-            coverage.count(&format!("{}: {}", if limit.past { "one past" } else { "exactly" }, limit.name));
+        if let Some((name, past)) = maker.limit(area, number) {
+            coverage.count(&format!("{}: {}", if past { "one past" } else { "exactly" }, name));
+        }
+        if area == EDGES {
+            if let Some(found) = edges::unmet(&maker.edges[number as usize]) {
+                fail(AREAS[area].0, maker.seed, number, &found);
+            }
         }
         for case in maker.cases(area, number) {
             compared += 1;
@@ -114,9 +119,7 @@ fn main() {
     let wanted = |name: &str| options.area.as_deref().map_or(true, |only| only == name);
     for (area, (name, _)) in AREAS.iter().enumerate() {
         if wanted(name) {
-            let all = maker.count(area);
-            let count = if area == LIMITS { all } else { all * options.scale / 100 };
-            let range = options.case.map_or(0..count, |case| case..case + 1);
+            let range = options.case.map_or(0..maker.count(area, options.scale), |case| case..case + 1);
             counts.push(format!("{} {}", name, compare_area(&maker, area, range, &mut coverage)));
         }
     }

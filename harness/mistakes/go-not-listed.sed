@@ -1,4 +1,4 @@
 # A go that acts is not listed.
 # area: shipped
 # file: cycle.rs
-/Entry::Go {/,/}/s/acted.add(row);/let _ = row;/
+/fn go_row/,/^    }/s/self.add(test.row);//

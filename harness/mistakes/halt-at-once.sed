@@ -1,4 +1,4 @@
-# A row that clears a register ends the cycle.
+# A row that clears the first register, which may be RUN, ends the cycle.
 # area: texts
 # file: cycle.rs
-s/Entry::Set { register, value, mask } => slots.set(register, slots.get(value) \& mask),/Entry::Set { register, value, mask } => {\n                slots.set(register, slots.get(value) \& mask);\n                if slots.get(value) == 0 {\n                    return;\n                }\n            }/
+s/_ => assign(entry, slots, memory),/_ => {\n                assign(entry, slots, memory);\n                if matches!(entry, Entry::Copy { to: 0, .. }) \&\& slots.get(0) == 0 {\n                    return;\n                }\n            }/

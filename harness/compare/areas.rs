@@ -19,10 +19,10 @@ pub const AREAS: [(&str, u64); 10] = [
     ("edges", 0),
     ("words", 4096 * 8),
     ("texts", 40_000),
-    ("damaged", 80_000),
+    ("damaged", 60_000),
     ("damaged-limits", 12_000),
     ("evaluate-state", 20_000),
-    ("shipped", 10_000),
+    ("shipped", 6_000),
 ];
 pub const LIMITS: usize = 2;
 pub const EDGES: usize = 3;
@@ -86,7 +86,10 @@ impl Maker {
                 damage(r, &mut text);
                 both(r, text)
             }
-            8 => vec![bad_evaluation(r)],
+            8 => {
+                let text = if r.once_in(10) { r.pick(&self.limits).text.clone() } else { texts::text(r).0 };
+                vec![bad_evaluation(r, text)]
+            }
             _ => vec![Case::Shipped(shipped(r, &self.shipped))],
         }
     }
@@ -122,14 +125,13 @@ fn with_state(random: &mut Random, text: Vec<u8>) -> EvaluateStart {
     }
     let filler = random.bits(12);
     let memory = (0..4096).map(|n| (n * 37 + filler) & 0o7777).collect();
-    let budget = *random.pick(&[0, 1, 1, 1, 2, 3, 5, 10, 30]);
+    let budget = if random.once_in(3000) { 100_000 } else { *random.pick(&[0, 1, 1, 1, 2, 3, 5, 10, 30]) };
     let places = *random.pick(&[128, 128, 129, 200, 256]);
     let rows = (0..places).map(|_| random.bits(8) as u8).collect();
     EvaluateStart { text, memory, registers, budget, rows }
 }
 
-fn bad_evaluation(random: &mut Random) -> Case {
-    let mut text = texts::text(random).0;
+fn bad_evaluation(random: &mut Random, mut text: Vec<u8>) -> Case {
     if random.once_in(8) {
         damage(random, &mut text);
     }
@@ -147,6 +149,6 @@ fn shipped(random: &mut Random, text: &[u8]) -> EvaluateStart {
     let mut start = with_state(random, text.to_vec());
     start.memory = image.memory;
     start.registers[..6].copy_from_slice(&image.registers);
-    start.budget = image.budget.min(2_000);
+    start.budget = if random.once_in(3000) { 1_000_000 } else { image.budget.min(2_000) };
     start
 }

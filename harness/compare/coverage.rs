@@ -31,7 +31,12 @@ impl Coverage {
     }
 
     pub fn count(&mut self, name: &str) {
-        *self.counts.entry(name.to_string()).or_insert(0) += 1;
+        match self.counts.get_mut(name) {
+            Some(count) => *count += 1,
+            None => {
+                self.counts.insert(name.to_string(), 1);
+            }
+        }
     }
 
     /// Before each run, so that rewritten words are told from the others.

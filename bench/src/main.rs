@@ -10,7 +10,7 @@ mod timing;
 use programs::{Program, PROGRAMS};
 use simh::Simh;
 use std::process::exit;
-use timing::{median, timed};
+use timing::{best, timed};
 
 /// The most steps or cycles that one call makes.
 const CALL: u64 = 1_000_000;
@@ -77,7 +77,7 @@ fn must_agree(what: &str, same: bool) {
     }
 }
 
-/// One program on every side, in turns: medians of library, SIMH and Rust emulator, library and Rust evaluator.
+/// One program on every side, in turns: best rates of library, SIMH and Rust emulator, library and Rust evaluator.
 fn program_rates(bench: &Bench, program: &Program) -> [f64; 5] {
     let mut rates: [Vec<f64>; 5] = Default::default();
     let (emulated, evaluated) = (bench.calls(100), bench.calls(5));
@@ -99,8 +99,7 @@ fn program_rates(bench: &Bench, program: &Program) -> [f64; 5] {
         rates[3].push(library);
         rates[4].push(rust);
     }
-    let middle = |side: usize| if rates[side].is_empty() { f64::NAN } else { median(&rates[side]) };
-    [middle(0), middle(1), middle(2), middle(3), middle(4)]
+    [best(&rates[0]), best(&rates[1]), best(&rates[2]), best(&rates[3]), best(&rates[4])]
 }
 
 fn millions(rate: f64) -> String {
@@ -136,12 +135,12 @@ fn reader(bench: &Bench) {
             rates[0].push(reader_rate(entries::read, &text, calls));
             rates[1].push(reader_rate(independent::read, &text, calls));
         }
-        let (library, rust) = (median(&rates[0]), median(&rates[1]));
+        let (library, rust) = (best(&rates[0]), best(&rates[1]));
         println!("| {} | {:.1} | {:.1} | {} | {:.1} |", name, library, rust, ratio(library, rust), text.len() as f64 / library);
     }
 }
 
-/// Nanoseconds a step or cycle for three budgets, the call's own cost included.
+/// Microseconds a call for three budgets, the call's own cost included, and for a budget of 1.
 fn growth(bench: &Bench) {
     let program = &PROGRAMS[1];
     println!("\n| library, {} | budget 1 | 10,000 | 100,000 | 1,000,000 |\n|---|---|---|---|---|", program.name);
@@ -154,7 +153,7 @@ fn growth(bench: &Bench) {
             rates[1].push(evaluator_rate(entries::evaluate, &bench.description, program, calls, budget).0);
         }
         for (line, rate) in lines.iter_mut().zip(&rates) {
-            line.push_str(&format!(" {:.1} |", budget as f64 / median(rate) * 1e6));
+            line.push_str(&format!(" {:.1} |", budget as f64 / best(rate) * 1e6));
         }
     }
     println!("{}\n{}", lines[0], lines[1]);
@@ -174,7 +173,7 @@ fn main() {
     }
     let description = std::fs::read(&words[1]).unwrap_or_default();
     let bench = Bench { simh: Simh::new(&words[0]), description, rounds: words[2].parse().unwrap_or(5), percent: words[3].parse().unwrap_or(100) };
-    println!("Machine: {}. Medians of {} rounds, all sides in turns in one run, by processor time.", machine(), bench.rounds);
+    println!("Machine: {}. Best of {} rounds, all sides in turns in one run, by processor time.", machine(), bench.rounds);
     if bench.simh.is_none() {
         println!("SIMH is not installed, so its column is empty.");
     }

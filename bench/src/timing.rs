@@ -1,4 +1,4 @@
-//! Processor time, so that what else the machine does counts as little as it can, and medians.
+//! Processor time, so that what else the machine does counts as little as it can, and the best of several rounds.
 
 #[repr(C)]
 #[derive(Clone, Copy, Default)]
@@ -44,8 +44,7 @@ pub fn timed(work: impl FnOnce()) -> f64 {
     own() - before
 }
 
-pub fn median(values: &[f64]) -> f64 {
-    let mut sorted = values.to_vec();
-    sorted.sort_by(|a, b| a.total_cmp(b));
-    sorted[sorted.len() / 2]
+/// The highest of some rates: what else the machine does can only lower one.
+pub fn best(rates: &[f64]) -> f64 {
+    rates.iter().copied().fold(f64::NAN, f64::max)
 }

@@ -51,6 +51,12 @@ fn unequal_words(what: &str, library: &[u16], rust: &[u16]) -> Option<String> {
     Some(format!("{} {:04o}: library {:04o}, Rust {:04o}", what, place, library[place], rust[place]))
 }
 
+/// The first place of the row list that differs.
+fn unequal_rows(library: &[u8], rust: &[u8]) -> Option<String> {
+    let place = (0..library.len()).find(|i| library[*i] != rust[*i])?;
+    Some(format!("row list, place {} from 0: library {}, Rust {}", place, library[place], rust[place]))
+}
+
 fn emulated(start: &Start, coverage: &mut Coverage) -> Option<String> {
     let (mut memory, mut registers) = (start.memory.clone(), start.registers);
     let (mut own_memory, mut own_registers) = (start.memory.clone(), start.registers);
@@ -98,7 +104,7 @@ fn evaluated(start: &EvaluateStart, coverage: &mut Coverage) -> Option<String> {
     }
     unequal("outcome", outcome, rust)
         .or_else(|| unequal("registers", library.registers, own.registers))
-        .or_else(|| unequal("row list", &library.rows, &own.rows))
+        .or_else(|| unequal_rows(&library.rows, &own.rows))
         .or_else(|| unequal_words("memory", &library.memory, &own.memory))
 }
 

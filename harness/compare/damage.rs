@@ -5,7 +5,8 @@ use crate::random::Random;
 /// Bytes that mean something to a reader, and some that mean nothing.
 const BYTES: &[u8] = b"\t\n \r\0\x7f\xff~!'#0123456789<>:[]()@+.MNaAdoregRUN-_";
 const TOKENS: [&str; 30] = [
-    "M", "[", "]", "(", ")", "<", ">", ":", "@", "+", "Not", "Slr", "Srr", "Eql", "Neq", "Lss", "And", "Or", "'1", "#7", "'", "#", "0", "01", "15", "16", "32767", "32768", "RUN", " ",
+    "M", "[", "]", "(", ")", "<", ">", ":", "@", "+", "Not", "Slr", "Srr", "Eql", "Neq", "Lss", "And", "Or", "'1", "#7", "'",
+    "#", "0", "01", "15", "16", "32767", "32768", "RUN", " ",
 ];
 const LINES: [&str; 12] = [
     "", "reg\tx1\t5", "reg\tM\t3", "reg\tx\t017", "reg\tRUN\t1", "do\t1\tRUN\t0", "do\tRUN", "go\t1\tnowhere", "at\t1a", "at\tlow", "rows\t1", "go\tRUN\tlow\tlow",

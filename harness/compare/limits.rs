@@ -177,7 +177,8 @@ impl Limits {
             self.field("width", fits, true);
         }
         let wide = [
-            "b @ b @ a", "d @ a", "a @ d", "d + a", "a + d", "c + c + a", "d + c Eql a", "a Eql c + c + a", "(d + a) Slr 1", "M[d + a]", "M[d] @ '00000", "Not (d + 1)", "32767 + a",
+            "b @ b @ a", "d @ a", "a @ d", "d + a", "a + d", "c + c + a", "d + c Eql a", "a Eql c + c + a", "(d + a) Slr 1",
+            "M[d + a]", "M[d] @ '00000", "Not (d + 1)", "32767 + a",
             "(a Lss d) @ d",
         ];
         for field in wide {
@@ -214,7 +215,10 @@ impl Limits {
             self.field("octal digits", &format!("#{}", "7".repeat(digits)), (1..=5).contains(&digits));
         }
         let parts = ["b<0>", "b<7>", "b<0:7>", "b<7:7>", "d<15>", "a<0:0>", "b < 0 : 3 >"];
-        let bad = ["b<8>", "b<0:8>", "b<4:3>", "b<07>", "b<00>", "d<16>", "a<1>", "b<>", "b<1:>", "b<:1>", "b<#1>", "M<1>", "M[a]<1>", "(b)<1>", "b<1", "b<-1>", "b<7:0>"];
+        let bad = [
+            "b<8>", "b<0:8>", "b<4:3>", "b<07>", "b<00>", "d<16>", "a<1>", "b<>", "b<1:>", "b<:1>", "b<#1>", "M<1>", "M[a]<1>",
+            "(b)<1>", "b<1", "b<-1>", "b<7:0>",
+        ];
         for part in parts.iter().chain(&bad) {
             self.field("bit number", part, parts.contains(part));
             let answer = if parts.contains(part) { [0, 0] } else { [5, FIRST_ROW] };

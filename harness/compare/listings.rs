@@ -6,7 +6,10 @@ use crate::random::Random;
 use std::io::Write;
 use std::process::{Command, Stdio};
 
-const DAMAGES: [&[u8]; 14] = [b"\n", b"0200\t7300", b"0200 7300\n", b"200\t7300\n", b"0200\t8300\n", b"0200\t73000\n", b"\t\n", b"0200\t7300\r\n", b"0200\t\t7300\n", b"02000\t7300\n", b"\0", b"0209\t7300\n", b" 0200\t7300\n", b"0200\t7300\n0"];
+const DAMAGES: [&[u8]; 14] = [
+    b"\n", b"0200\t7300", b"0200 7300\n", b"200\t7300\n", b"0200\t8300\n", b"0200\t73000\n", b"\t\n", b"0200\t7300\r\n",
+    b"0200\t\t7300\n", b"02000\t7300\n", b"\0", b"0209\t7300\n", b" 0200\t7300\n", b"0200\t7300\n0",
+];
 
 /// Lines of code from 0200, and some elsewhere.
 pub fn input(random: &mut Random) -> Vec<u8> {

@@ -5,7 +5,8 @@ use crate::random::Random;
 
 /// Names that a careless reader might take for something else.
 const ODD_NAMES: [&str; 20] = [
-    "a", "B", "not", "M1", "Not1", "And.", "or", "m", "LAC", "PC", "x.y.z", "A", "Eq", "Eqll", "RUN2", "run", "Z9", "abcdefghijklmnopqrst", "ABCDEFGHIJ.LMNOPQRST", "rows",
+    "a", "B", "not", "M1", "Not1", "And.", "or", "m", "LAC", "PC", "x.y.z", "A", "Eq", "Eqll", "RUN2", "run", "Z9",
+    "abcdefghijklmnopqrst", "ABCDEFGHIJ.LMNOPQRST", "rows",
 ];
 const ODD_LABELS: [&str; 10] = ["M", "And", "Not", "loop", "do", "go", "at", "reg", "l.1", "abcdefghijklmnopqrst"];
 

@@ -1,0 +1,47 @@
+//! The library's entries.
+
+extern "C" {
+    fn guavachisel_emulate(memory: *mut u16, words: usize, registers: *mut u16, budget: u64, outcome: *mut u64);
+    fn guavachisel_read(text: *const u8, bytes: usize, outcome: *mut u64);
+    fn guavachisel_evaluate(
+        text: *const u8,
+        bytes: usize,
+        memory: *mut u16,
+        words: usize,
+        registers: *mut u16,
+        budget: u64,
+        rows: *mut u8,
+        places: usize,
+        outcome: *mut u64,
+    );
+}
+
+pub fn emulate(memory: &mut [u16], registers: &mut [u16; 6], budget: u64) -> [u64; 3] {
+    let mut outcome = [0; 3];
+    unsafe { guavachisel_emulate(memory.as_mut_ptr(), memory.len(), registers.as_mut_ptr(), budget, outcome.as_mut_ptr()) };
+    outcome
+}
+
+pub fn read(text: &[u8]) -> [u64; 2] {
+    let mut outcome = [0; 2];
+    unsafe { guavachisel_read(text.as_ptr(), text.len(), outcome.as_mut_ptr()) };
+    outcome
+}
+
+pub fn evaluate(text: &[u8], memory: &mut [u16], registers: &mut [u16; 16], budget: u64, rows: &mut [u8]) -> [u64; 4] {
+    let mut outcome = [0; 4];
+    unsafe {
+        guavachisel_evaluate(
+            text.as_ptr(),
+            text.len(),
+            memory.as_mut_ptr(),
+            memory.len(),
+            registers.as_mut_ptr(),
+            budget,
+            rows.as_mut_ptr(),
+            rows.len(),
+            outcome.as_mut_ptr(),
+        )
+    };
+    outcome
+}

@@ -1,0 +1,102 @@
+//! Images for both machines: binary tapes read and written, and random images dense with code.
+
+use crate::random::Random;
+
+/// An image with the state to start from.
+pub struct Image {
+    pub name: String,
+    pub memory: Vec<u16>,
+    pub lac: u16,
+    pub pc: u16,
+    pub switches: u16,
+    /// Steps to compare after.
+    pub budgets: Vec<u64>,
+    /// Words that the program is to leave: address and word.
+    pub expected: Vec<(u16, u16)>,
+}
+
+/// A binary tape of all 4,096 words: leader, an origin, two frames a word, the checksum, trailer.
+pub fn tape(memory: &[u16]) -> Vec<u8> {
+    let mut frames = vec![0o100, 0];
+    for word in memory {
+        frames.extend([(word >> 6) as u8, (word & 0o77) as u8]);
+    }
+    let sum = frames.iter().fold(0u16, |sum, frame| sum.wrapping_add(u16::from(*frame))) & 0o7777;
+    let mut bytes = vec![0o200; 8];
+    bytes.extend(frames);
+    bytes.extend([(sum >> 6) as u8, (sum & 0o77) as u8]);
+    bytes.extend(vec![0o200; 8]);
+    bytes
+}
+
+/// The memory of a binary tape as palbart writes it; other words are 0.
+pub fn from_tape(bytes: &[u8]) -> Vec<u16> {
+    let frames: Vec<u16> = bytes.iter().filter(|b| **b < 0o200).map(|b| u16::from(*b)).collect();
+    let mut memory = vec![0; 4096];
+    let mut address = 0usize;
+    let words = frames.len() / 2 - 1; // the last is the checksum
+    for pair in frames.chunks(2).take(words) {
+        let word = (pair[0] & 0o77) << 6 | pair[1];
+        if pair[0] & 0o100 != 0 {
+            address = word as usize;
+        } else {
+            memory[address % 4096] = word;
+            address += 1;
+        }
+    }
+    memory
+}
+
+/// A program's words to be left, from lines `/ EXPECT address word`.
+pub fn expectations(source: &str) -> Vec<(u16, u16)> {
+    let number = |word: Option<&str>| word.and_then(|w| u16::from_str_radix(w, 8).ok());
+    source
+        .lines()
+        .filter_map(|line| line.strip_prefix("/ EXPECT "))
+        .filter_map(|rest| {
+            let mut words = rest.split_whitespace();
+            Some((number(words.next())?, number(words.next())?))
+        })
+        .collect()
+}
+
+/// Code of ops 0 to 5 and 7 that both machines are meant to run alike; `comparable` is asked again at each step.
+fn instruction(random: &mut Random) -> u16 {
+    loop {
+        let word = match random.below(8) {
+            0..=4 => {
+                let word = (random.below(6) as u16) << 9 | random.bits(8);
+                if random.once_in(3) { word & 0o7000 | 0o400 | random.between(0o7, 0o20) as u16 } else { word }
+            }
+            5 | 6 => 0o7000 | random.bits(8),
+            _ => 0o7400 | random.bits(8) & 0o374 | if random.once_in(12) { 2 } else { 0 },
+        };
+        if comparable(word) {
+            return word;
+        }
+    }
+}
+
+pub fn random_image(random: &mut Random, name: String) -> Image {
+    let mut memory: Vec<u16> = (0..4096).map(|_| instruction(random)).collect();
+    for pointer in 0o7..=0o20 {
+        let anywhere = random.bits(12);
+        memory[pointer] = *random.pick(&[anywhere, anywhere, 0o7777, 0o7, 0o17]);
+    }
+    let pc = if random.once_in(3) { *random.pick(&[0, 0o177, 0o377, 0o7776, 0o7777]) } else { random.bits(12) };
+    let most = *random.pick(&[1, 2, 5, 20, 100, 1000, 10_000]);
+    let budgets = vec![random.between(1, most) as u64];
+    Image { name, memory, lac: random.bits(13), pc, switches: random.bits(12), budgets, expected: Vec::new() }
+}
+
+/// Whether document 01 and SIMH's machine are meant to do the same at this word: see harness/SIMH.md.
+pub fn comparable(word: u16) -> bool {
+    let group_1 = word & 0o7400 == 0o7000;
+    let group_3 = word & 0o7401 == 0o7401;
+    let iot = word >> 9 == 6;
+    let swaps_bytes = group_1 && word & 0o16 == 0o2;
+    let rotates_both = group_1 && word & 0o14 == 0o14;
+    let group_2 = word & 0o7401 == 0o7400;
+    let opposites = group_2 && word & 0o10 != 0 && (word & 0o160).count_ones() > 1;
+    !iot && !swaps_bytes && !rotates_both && !opposites && (!group_3 || word & 0o376 == 0 || word & 0o376 == 0o200)
+}

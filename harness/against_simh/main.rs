@@ -1,0 +1,146 @@
+//! Runs images on SIMH's pdp8 and on the library's emulator and compares memory, L, AC and PC.
+//! Usage: against_simh WORK SIMH SEED IMAGES [PAL-SOURCE TAPE]..
+//! WORK is a folder for tapes and the command file. All images are run in one process of SIMH.
+
+mod images;
+#[path = "../compare/random.rs"]
+mod random;
+
+use images::{comparable, expectations, from_tape, random_image, tape, Image};
+use random::Random;
+use std::fs;
+use std::process::{exit, Command, Stdio};
+
+extern "C" {
+    fn guavachisel_emulate(memory: *mut u16, words: usize, registers: *mut u16, budget: u64, outcome: *mut u64);
+}
+
+/// What both machines have at the end.
+#[derive(PartialEq)]
+struct End {
+    pc: u16,
+    link: u16,
+    ac: u16,
+    memory: Vec<u16>,
+}
+
+fn emulate(memory: &mut [u16], registers: &mut [u16; 6], budget: u64) -> u64 {
+    let mut outcome = [0; 3];
+    unsafe { guavachisel_emulate(memory.as_mut_ptr(), memory.len(), registers.as_mut_ptr(), budget, outcome.as_mut_ptr()) };
+    assert_eq!(outcome[0], 0, "refused");
+    outcome[1]
+}
+
+/// The library's end, and its steps: at most the budget, and none from the first word on that is not compared.
+fn by_library(image: &Image, budget: u64) -> (End, u64) {
+    let mut memory = image.memory.clone();
+    let mut registers = [image.lac, image.pc, 1, 0, 0, image.switches];
+    let mut steps = 0;
+    while steps < budget && registers[2] == 1 && comparable(memory[registers[1] as usize]) {
+        steps += emulate(&mut memory, &mut registers, 1);
+    }
+    (End { pc: registers[1], link: registers[0] >> 12, ac: registers[0] & 0o7777, memory }, steps)
+}
+
+/// The commands for one run, whose tape is in the work folder.
+fn commands(image: &Image, steps: u64) -> String {
+    let (link, ac) = (image.lac >> 12, image.lac & 0o7777);
+    let start = format!("deposit pc {:o}\ndeposit l {:o}\ndeposit ac {:o}\ndeposit sr {:o}\n", image.pc, link, ac, image.switches);
+    let run = if steps > 0 { format!("step {}\n", steps) } else { String::new() };
+    format!("load {}.bin\n{}{}examine pc,l,ac\nexamine 0-7777\n", image.name, start, run)
+}
+
+/// Values that SIMH printed for `examine`, in order.
+fn examined(output: &str) -> Vec<u16> {
+    output
+        .lines()
+        .filter_map(|line| line.split_once(":\t"))
+        .filter(|(name, _)| ["PC", "L", "AC"].contains(name) || u16::from_str_radix(name, 8).is_ok())
+        .filter_map(|(_, value)| u16::from_str_radix(value.trim(), 8).ok())
+        .collect()
+}
+
+fn run_simh(work: &str, simh: &str, script: &str) -> std::io::Result<String> {
+    fs::write(format!("{}/images.do", work), script)?;
+    let output = Command::new(simh).arg("images.do").current_dir(work).stdin(Stdio::null()).output()?;
+    Ok(String::from_utf8_lossy(&output.stdout).into_owned())
+}
+
+fn images(arguments: &[String]) -> std::io::Result<Vec<Image>> {
+    let seed: u64 = arguments[2].parse().unwrap_or(1);
+    let count: u64 = arguments[3].parse().unwrap_or(100);
+    let mut all = Vec::new();
+    for pair in arguments[4..].chunks(2) {
+        let name = format!("program{}", all.len());
+        let expected = expectations(&fs::read_to_string(&pair[0])?);
+        let budgets = vec![1, 2, 3, 5, 8, 13, 21, 34, 55, 89, 1000];
+        all.push(Image { name, memory: from_tape(&fs::read(&pair[1])?), lac: 0, pc: 0o200, switches: 0, budgets, expected });
+    }
+    for n in 0..count {
+        all.push(random_image(&mut Random::of_case(seed, 99, n), format!("random{}", n)));
+    }
+    Ok(all)
+}
+
+/// A word that a program should have left at its halt and has not.
+fn unmet(image: &Image) -> Option<(u16, u16)> {
+    if image.expected.is_empty() {
+        return None;
+    }
+    let end = by_library(image, 10_000).0;
+    image.expected.iter().copied().find(|(address, word)| end.memory[*address as usize] != *word)
+}
+
+/// What is different between one run's two ends.
+fn difference(library: &End, simh: &End) -> Option<String> {
+    if (library.pc, library.link, library.ac) != (simh.pc, simh.link, simh.ac) {
+        let (l, s) = (library, simh);
+        return Some(format!("PC {:04o} L {} AC {:04o}, SIMH PC {:04o} L {} AC {:04o}", l.pc, l.link, l.ac, s.pc, s.link, s.ac));
+    }
+    let place = (0..4096).find(|n| library.memory[*n] != simh.memory[*n])?;
+    Some(format!("word {:04o} {:04o}, SIMH {:04o}", place, library.memory[place], simh.memory[place]))
+}
+
+fn main() -> std::io::Result<()> {
+    let arguments: Vec<String> = std::env::args().skip(1).collect();
+    if arguments.len() < 4 {
+        eprintln!("usage: against_simh WORK SIMH SEED IMAGES [PAL-SOURCE TAPE]..");
+        exit(2);
+    }
+    let all = images(&arguments)?;
+    let mut script = String::from("set cpu 4k\nset cpu noidle\n");
+    let mut runs = Vec::new();
+    for image in &all {
+        fs::write(format!("{}/{}.bin", arguments[0], image.name), tape(&image.memory))?;
+        for budget in &image.budgets {
+            let (end, steps) = by_library(image, *budget);
+            script += &commands(image, steps);
+            runs.push((image, end, steps));
+        }
+        if let Some((address, word)) = unmet(image) {
+            println!("{}: word {:04o} is not {:04o}", image.name, address, word);
+            exit(1);
+        }
+    }
+    let output = run_simh(&arguments[0], &arguments[1], &(script + "exit\n"))?;
+    compare(&runs, &examined(&output));
+    Ok(())
+}
+
+fn compare(runs: &[(&Image, End, u64)], values: &[u16]) {
+    const EACH: usize = 4096 + 3;
+    if values.len() != runs.len() * EACH {
+        println!("SIMH printed {} values instead of {}", values.len(), runs.len() * EACH);
+        exit(1);
+    }
+    let mut total = 0;
+    for ((image, end, steps), printed) in runs.iter().zip(values.chunks(EACH)) {
+        let simh = End { pc: printed[0], link: printed[1], ac: printed[2], memory: printed[3..].to_vec() };
+        if let Some(found) = difference(end, &simh) {
+            println!("{} after {} steps from PC {:04o} LAC {:05o} SWITCHES {:04o}: {}", image.name, steps, image.pc, image.lac, image.switches, found);
+            exit(1);
+        }
+        total += steps;
+    }
+    println!("simh: {} runs, {} steps, no difference", runs.len(), total);
+}

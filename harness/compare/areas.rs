@@ -1,0 +1,154 @@
+//! The areas of the comparison, and how the cases of each are made from a seed.
+
+use crate::cases::{Case, EvaluateStart};
+use crate::damage::damage;
+use crate::edges::{edges, Edge};
+use crate::images;
+use crate::limits::{limits, Limit};
+use crate::random::Random;
+use crate::states::{spoil, State};
+use crate::texts;
+use independent::description::description;
+use independent::machine::WIDTHS;
+
+/// An area's name, and how many cases of it one run tries.
+pub const AREAS: [(&str, u64); 10] = [
+    ("emulate", 50_000),
+    ("emulate-state", 12_000),
+    ("limits", 0),
+    ("edges", 0),
+    ("words", 4096 * 8),
+    ("texts", 40_000),
+    ("damaged", 60_000),
+    ("damaged-limits", 12_000),
+    ("evaluate-state", 20_000),
+    ("shipped", 6_000),
+];
+pub const LIMITS: usize = 2;
+pub const EDGES: usize = 3;
+/// The listing's cases are made in listings.rs.
+pub const LISTING: usize = 10;
+
+pub struct Maker {
+    pub seed: u64,
+    pub shipped: Vec<u8>,
+    pub limits: Vec<Limit>,
+    pub edges: Vec<Edge>,
+}
+
+impl Maker {
+    pub fn new(seed: u64, shipped: Vec<u8>) -> Maker {
+        Maker { seed, shipped, limits: limits(), edges: edges() }
+    }
+
+    /// How many cases an area has, at so many percent of the usual; each limit and edge is tried once.
+    pub fn count(&self, area: usize, percent: u64) -> u64 {
+        match area {
+            LIMITS => self.limits.len() as u64,
+            EDGES => self.edges.len() as u64,
+            _ => AREAS[area].1 * percent / 100,
+        }
+    }
+
+    /// A limit or edge that a case is about: its name, and whether it is passed.
+    pub fn limit(&self, area: usize, case: u64) -> Option<(&'static str, bool)> {
+        match area {
+            LIMITS => Some((self.limits[case as usize].name, self.limits[case as usize].past)),
+            EDGES => Some((self.edges[case as usize].name, self.edges[case as usize].past)),
+            _ => None,
+        }
+    }
+
+    /// What is compared under one number.
+    pub fn cases(&self, area: usize, case: u64) -> Vec<Case> {
+        let mut random = Random::of_case(self.seed, area, case);
+        let r = &mut random;
+        match area {
+            0 => vec![Case::Emulate(images::start(r))],
+            1 => vec![bad_emulation(r)],
+            2 => {
+                let limit = &self.limits[case as usize];
+                vec![Case::Known(limit.text.clone(), limit.answer), Case::Evaluate(with_state(r, limit.text.clone()))]
+            }
+            3 => vec![self.edges[case as usize].case.clone()],
+            4 => vec![Case::Emulate(images::one_word(r, (case % 4096) as u16))],
+            5 => {
+                let text = texts::text(r).0;
+                both(r, text)
+            }
+            6 => {
+                let mut text = texts::text(r).0;
+                damage(r, &mut text);
+                both(r, text)
+            }
+            7 => {
+                let mut text = r.pick(&self.limits).text.clone();
+                damage(r, &mut text);
+                both(r, text)
+            }
+            8 => {
+                let text = if r.once_in(10) { r.pick(&self.limits).text.clone() } else { texts::text(r).0 };
+                vec![bad_evaluation(r, text)]
+            }
+            _ => vec![Case::Shipped(shipped(r, &self.shipped))],
+        }
+    }
+}
+
+fn bad_emulation(random: &mut Random) -> Case {
+    let mut start = images::Start { memory: vec![random.bits(12); 4096], registers: images::machine(random), budget: 5 };
+    start.memory[random.below(4096)] = random.bits(12);
+    let mut state = State { memory: &mut start.memory, registers: &mut start.registers, widths: &WIDTHS, budget: &mut start.budget, rows: None };
+    spoil(random, &mut state);
+    Case::Emulate(start)
+}
+
+/// The reader's answer, and the evaluator's from a fitting state.
+fn both(random: &mut Random, text: Vec<u8>) -> Vec<Case> {
+    let evaluate = with_state(random, text.clone());
+    vec![Case::Read(text), Case::Evaluate(evaluate)]
+}
+
+/// Register widths of a text that is accepted; none of one that is not.
+fn widths(text: &[u8]) -> Vec<u8> {
+    description(text).map_or(Vec::new(), |d| d.registers.iter().map(|r| r.width).collect())
+}
+
+/// A fitting state, RUN being 1 nearly always.
+fn with_state(random: &mut Random, text: Vec<u8>) -> EvaluateStart {
+    let mut registers = [0; 16];
+    if let Ok(d) = description(&text) {
+        for (place, register) in d.registers.iter().enumerate() {
+            registers[place] = random.bits(register.width);
+        }
+        registers[d.run] = u16::from(!random.once_in(16));
+    }
+    let filler = random.bits(12);
+    let memory = (0..4096).map(|n| (n * 37 + filler) & 0o7777).collect();
+    let budget = if random.once_in(3000) { 100_000 } else { *random.pick(&[0, 1, 1, 1, 2, 3, 5, 10, 30]) };
+    let places = *random.pick(&[128, 128, 129, 200, 256]);
+    let rows = (0..places).map(|_| random.bits(8) as u8).collect();
+    EvaluateStart { text, memory, registers, budget, rows }
+}
+
+fn bad_evaluation(random: &mut Random, mut text: Vec<u8>) -> Case {
+    if random.once_in(8) {
+        damage(random, &mut text);
+    }
+    let mut start = with_state(random, text);
+    let widths = widths(&start.text);
+    let mut state =
+        State { memory: &mut start.memory, registers: &mut start.registers, widths: &widths, budget: &mut start.budget, rows: Some(&mut start.rows) };
+    spoil(random, &mut state);
+    Case::Evaluate(start)
+}
+
+/// The shipped description on a random image, its working registers holding anything that fits.
+fn shipped(random: &mut Random, text: &[u8]) -> EvaluateStart {
+    let image = images::start(random);
+    let mut start = with_state(random, text.to_vec());
+    start.memory = image.memory;
+    start.registers[..6].copy_from_slice(&image.registers);
+    start.budget = if random.once_in(3000) { 1_000_000 } else { image.budget.min(2_000) };
+    start
+}

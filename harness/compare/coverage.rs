@@ -1,0 +1,210 @@
+//! How often each thing that has to be tried was tried: instruction words, refusals, operators, destinations, limits.
+
+use crate::{edges, limits};
+use independent::description::{Description, Row};
+use independent::expression::{Binary, Destination, Expression, Kind};
+use independent::watch::{Event, Watch};
+use std::collections::BTreeMap;
+
+pub struct Coverage {
+    counts: BTreeMap<String, u64>,
+    /// How often each instruction word was executed.
+    words: Vec<u64>,
+    /// Addresses that the run stored to.
+    stored: Vec<bool>,
+    events: [u64; 7],
+}
+
+const EVENTS: [&str; 7] = [
+    "a page taken from the last word of a page",
+    "a pointer increased",
+    "a word rewritten by the run executed",
+    "a skip",
+    "an interrupt",
+    "PC from 7777 to 0000",
+    "an indirect 0007 or 0020",
+];
+
+impl Coverage {
+    pub fn new() -> Coverage {
+        Coverage { counts: BTreeMap::new(), words: vec![0; 4096], stored: vec![false; 4096], events: [0; 7] }
+    }
+
+    pub fn count(&mut self, name: &str) {
+        match self.counts.get_mut(name) {
+            Some(count) => *count += 1,
+            None => {
+                self.counts.insert(name.to_string(), 1);
+            }
+        }
+    }
+
+    /// Before each run, so that rewritten words are told from the others.
+    pub fn new_run(&mut self) {
+        self.stored.iter_mut().for_each(|s| *s = false);
+    }
+
+    pub fn refusal(&mut self, entry: &str, number: u64) {
+        self.count(&format!("refusal {} by {}", number, entry));
+    }
+
+    pub fn ending(&mut self, entry: &str, steps: u64, budget: u64, reason: u64) {
+        let name = match (steps, reason) {
+            (0, 1) if budget == 0 => "halted at once, budget 0",
+            (0, 1) => "halted at once",
+            (0, _) => "spent at once",
+            (_, 1) => "halted",
+            _ => "spent",
+        };
+        self.count(&format!("{} by {}", name, entry));
+    }
+
+    /// What the rows that acted hold.
+    pub fn rows(&mut self, description: &Description, acted: &[u8]) {
+        for number in acted {
+            match &description.rows[*number as usize - 1] {
+                Row::Go { condition, .. } => {
+                    self.count("a go acted");
+                    self.expression(condition);
+                }
+                Row::Do { condition, destination, expression } => {
+                    self.expression(condition);
+                    self.expression(expression);
+                    match destination {
+                        Destination::Word(address) => {
+                            self.count("a memory destination");
+                            self.expression(address);
+                        }
+                        Destination::Part(part) if part.whole => self.count("a register destination"),
+                        Destination::Part(_) => self.count("a bit part destination"),
+                    }
+                }
+            }
+        }
+        if acted.len() < description.rows.len() {
+            self.count("a row that did not act");
+        }
+    }
+
+    fn expression(&mut self, expression: &Expression) {
+        match &expression.kind {
+            Kind::Part(part) if part.whole => self.count("a register"),
+            Kind::Part(_) => self.count("a bit part"),
+            Kind::Constant(_) => self.count("a constant"),
+            Kind::Word(address) => {
+                self.count("a memory word");
+                self.expression(address);
+            }
+            Kind::Not(of) => {
+                self.count("operator Not");
+                self.expression(of);
+            }
+            Kind::Rotate { left, of, count } => {
+                self.count(if *left { "operator Slr" } else { "operator Srr" });
+                if *count >= of.width {
+                    self.count("a rotation of more places than bits");
+                }
+                self.expression(of);
+            }
+            Kind::Two(operator, left, right) => {
+                self.count(operator_name(*operator));
+                self.expression(left);
+                self.expression(right);
+            }
+        }
+    }
+
+    /// What was never tried.
+    pub fn missing(&self) -> Vec<String> {
+        let mut missing: Vec<String> = required().into_iter().filter(|name| !self.counts.contains_key(name)).collect();
+        missing.extend((0..4096).filter(|i| self.words[*i] == 0).map(|i| format!("instruction {:04o}", i)));
+        missing.extend((0..EVENTS.len()).filter(|i| self.events[*i] == 0).map(|i| EVENTS[i].to_string()));
+        missing
+    }
+
+    pub fn print(&self) {
+        for (name, count) in &self.counts {
+            println!("{:>12}  {}", count, name);
+        }
+        for (count, name) in self.events.iter().zip(EVENTS) {
+            println!("{:>12}  {}", count, name);
+        }
+        for op in 0..8 {
+            let of_op = &self.words[op * 512..(op + 1) * 512];
+            println!("{:>12}  steps of op {}, each of its 512 words at least {} times", of_op.iter().sum::<u64>(), op, of_op.iter().min().unwrap_or(&0));
+        }
+    }
+
+    /// The things to be tried, and how many steps were watched.
+    pub fn totals(&self) -> (usize, u64) {
+        (required().len() + 4096 + EVENTS.len(), self.words.iter().sum())
+    }
+}
+
+fn operator_name(operator: Binary) -> &'static str {
+    match operator {
+        Binary::Join => "operator @",
+        Binary::Add => "operator +",
+        Binary::Eql => "operator Eql",
+        Binary::Neq => "operator Neq",
+        Binary::Lss => "operator Lss",
+        Binary::And => "operator And",
+        Binary::Or => "operator Or",
+    }
+}
+
+/// Everything that has to be tried at least once, the instruction words and events aside.
+fn required() -> Vec<String> {
+    let mut names: Vec<String> = Vec::new();
+    for number in 1..=8 {
+        names.push(format!("refusal {} by read", number));
+        names.push(format!("refusal {} by evaluate", number));
+    }
+    for number in 11..=14 {
+        names.push(format!("refusal {} by emulate", number));
+    }
+    for number in 11..=15 {
+        names.push(format!("refusal {} by evaluate", number));
+    }
+    for entry in ["emulate", "evaluate"] {
+        for ending in ["halted at once, budget 0", "halted at once", "spent at once", "halted", "spent"] {
+            names.push(format!("{} by {}", ending, entry));
+        }
+    }
+    for operator in ["Not", "@", "Slr", "Srr", "+", "Eql", "Neq", "Lss", "And", "Or"] {
+        names.push(format!("operator {}", operator));
+    }
+    for thing in ["a go acted", "a row that did not act", "a memory destination", "a register destination", "a bit part destination"] {
+        names.push(thing.to_string());
+    }
+    for thing in ["a register", "a bit part", "a constant", "a memory word", "a rotation of more places than bits", "accepted by read"] {
+        names.push(thing.to_string());
+    }
+    for limit in limits::NAMES.iter().chain(&edges::NAMES) {
+        names.push(format!("one past: {}", limit));
+        if *limit != "order of refusals" {
+            names.push(format!("exactly: {}", limit));
+        }
+    }
+    names
+}
+
+impl Watch for Coverage {
+    #[inline(always)]
+    fn saw(&mut self, event: Event) {
+        match event {
+            Event::Fetched(pc, i) => {
+                self.words[i as usize] += 1;
+                self.events[2] += u64::from(self.stored[pc as usize]);
+                self.events[5] += u64::from(pc == 0o7777);
+                let first = i & 0o177;
+                self.events[6] += u64::from(i < 0o6000 && i & 0o600 == 0o400 && (first == 0o7 || first == 0o20));
+            }
+            Event::PageEnd => self.events[0] += 1,
+            Event::AutoIndexed(_) => self.events[1] += 1,
+            Event::Stored(address) => self.stored[address as usize] = true,
+            Event::Skipped => self.events[3] += 1,
+            Event::Interrupted => self.events[4] += 1,
+        }
+    }
+}

@@ -1,0 +1,102 @@
+//! Calls of the C entries under test. Everything lent to an entry stands between guard places, which have to stay.
+
+const GUARDS: usize = 16;
+
+extern "C" {
+    fn guavachisel_emulate(memory: *mut u16, words: usize, registers: *mut u16, budget: u64, outcome: *mut u64);
+    fn guavachisel_read(text: *const u8, bytes: usize, outcome: *mut u64);
+    fn guavachisel_evaluate(
+        text: *const u8,
+        bytes: usize,
+        memory: *mut u16,
+        words: usize,
+        registers: *mut u16,
+        budget: u64,
+        rows: *mut u8,
+        places: usize,
+        outcome: *mut u64,
+    );
+}
+
+/// Values between guards.
+struct Guarded<T> {
+    places: Vec<T>,
+    guard: T,
+}
+
+impl<T: Copy + PartialEq> Guarded<T> {
+    fn new(values: &[T], guard: T) -> Guarded<T> {
+        let mut places = vec![guard; values.len() + 2 * GUARDS];
+        places[GUARDS..GUARDS + values.len()].copy_from_slice(values);
+        Guarded { places, guard }
+    }
+
+    fn pointer(&mut self) -> *mut T {
+        self.places[GUARDS..].as_mut_ptr()
+    }
+
+    fn values(&self) -> &[T] {
+        &self.places[GUARDS..self.places.len() - GUARDS]
+    }
+
+    fn unharmed(&self) -> bool {
+        let end = self.places.len() - GUARDS;
+        self.places[..GUARDS].iter().chain(&self.places[end..]).all(|place| *place == self.guard)
+    }
+
+    /// Takes the values back; the guards must have stayed.
+    fn take_back(&self, into: &mut [T], what: &str) {
+        into.copy_from_slice(self.values());
+        assert!(self.unharmed(), "written outside the {}", what);
+    }
+}
+
+pub fn emulate(memory: &mut [u16], registers: &mut [u16; 6], budget: u64) -> [u64; 3] {
+    let mut words = Guarded::new(memory, 0xa5a5);
+    let mut values = Guarded::new(&registers[..], 0x5a5a);
+    let mut outcome = Guarded::new(&[77; 3], u64::MAX - 5);
+    unsafe { guavachisel_emulate(words.pointer(), memory.len(), values.pointer(), budget, outcome.pointer()) };
+    words.take_back(memory, "memory");
+    values.take_back(registers, "registers");
+    let mut answer = [0; 3];
+    outcome.take_back(&mut answer, "outcome");
+    answer
+}
+
+pub fn read(text: &[u8]) -> [u64; 2] {
+    let mut bytes = Guarded::new(text, b'1');
+    let mut outcome = Guarded::new(&[77; 2], u64::MAX - 5);
+    unsafe { guavachisel_read(bytes.pointer(), text.len(), outcome.pointer()) };
+    assert!(bytes.values() == text && bytes.unharmed(), "the text was written to");
+    let mut answer = [0; 2];
+    outcome.take_back(&mut answer, "outcome");
+    answer
+}
+
+pub fn evaluate(text: &[u8], memory: &mut [u16], registers: &mut [u16; 16], budget: u64, rows: &mut [u8]) -> [u64; 4] {
+    let mut bytes = Guarded::new(text, b'1');
+    let mut words = Guarded::new(memory, 0xa5a5);
+    let mut values = Guarded::new(&registers[..], 0x5a5a);
+    let mut list = Guarded::new(rows, 0xa5);
+    let mut outcome = Guarded::new(&[77; 4], u64::MAX - 5);
+    unsafe {
+        guavachisel_evaluate(
+            bytes.pointer(),
+            text.len(),
+            words.pointer(),
+            memory.len(),
+            values.pointer(),
+            budget,
+            list.pointer(),
+            rows.len(),
+            outcome.pointer(),
+        )
+    };
+    assert!(bytes.values() == text && bytes.unharmed(), "the text was written to");
+    words.take_back(memory, "memory");
+    values.take_back(registers, "registers");
+    list.take_back(rows, "row list");
+    let mut answer = [0; 4];
+    outcome.take_back(&mut answer, "outcome");
+    answer
+}

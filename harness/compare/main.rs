@@ -1,0 +1,149 @@
+//! Compares the C entries of the library that this program is linked with, and the listing program, with the independent Rust
+//! implementation.
+//! Usage: compare DESCRIPTION LISTING SEED [--coverage] [--scale PERCENT] [--only AREA [CASE]]
+//! LISTING may be `-`. Ends with status 1 at the first difference, and if anything that has to be tried was not.
+
+mod areas;
+mod cases;
+mod coverage;
+mod damage;
+mod edges;
+mod entries;
+mod expressions;
+mod images;
+mod limits;
+mod listings;
+mod random;
+mod shrink;
+mod states;
+mod texts;
+
+use areas::{Maker, AREAS, EDGES};
+use coverage::Coverage;
+use std::process::exit;
+
+const LISTINGS: u64 = 400;
+
+struct Options {
+    description: String,
+    listing: String,
+    seed: u64,
+    coverage: bool,
+    scale: u64,
+    area: Option<String>,
+    case: Option<u64>,
+}
+
+fn options() -> Option<Options> {
+    let mut words = std::env::args().skip(1);
+    let mut options = Options {
+        description: words.next()?,
+        listing: words.next()?,
+        seed: words.next()?.parse().ok()?,
+        coverage: false,
+        scale: 100,
+        area: None,
+        case: None,
+    };
+    while let Some(word) = words.next() {
+        match word.as_str() {
+            "--coverage" => options.coverage = true,
+            "--scale" => options.scale = words.next()?.parse().ok()?,
+            "--only" => {
+                options.area = Some(words.next()?);
+                options.case = words.next().map(|c| c.parse().unwrap_or(0));
+            }
+            _ => return None,
+        }
+    }
+    Some(options)
+}
+
+/// Prints a difference, with what makes it again, and ends.
+fn fail(area: &str, seed: u64, case: u64, found: &str) -> ! {
+    println!("different in area {}, seed {}, case {}: {}", area, seed, case, found);
+    println!("again: harness/run LIBRARY {} {} {}", seed, area, case);
+    exit(1)
+}
+
+fn compare_area(maker: &Maker, area: usize, range: std::ops::Range<u64>, coverage: &mut Coverage) -> u64 {
+    let mut compared = 0;
+    for number in range {
+        if let Some((name, past)) = maker.limit(area, number) {
+            coverage.count(&format!("{}: {}", if past { "one past" } else { "exactly" }, name));
+        }
+        if area == EDGES {
+            if let Some(found) = edges::unmet(&maker.edges[number as usize]) {
+                fail(AREAS[area].0, maker.seed, number, &found);
+            }
+        }
+        for case in maker.cases(area, number) {
+            compared += 1;
+            if let Some(found) = shrink::check(&case, coverage) {
+                let small = shrink::shrunk(&case);
+                println!("a smaller case of it:");
+                shrink::print(&small);
+                if let Some(smaller) = shrink::check(&small, coverage) {
+                    println!("{}", smaller);
+                }
+                fail(AREAS[area].0, maker.seed, number, &found);
+            }
+        }
+    }
+    compared
+}
+
+fn compare_listings(options: &Options, range: std::ops::Range<u64>) -> u64 {
+    let count = range.end - range.start;
+    for number in range {
+        if let Some(found) = listings::difference(&options.listing, options.seed, number) {
+            fail("listing", options.seed, number, &found);
+        }
+    }
+    count
+}
+
+fn main() {
+    let options = options().unwrap_or_else(|| {
+        eprintln!("usage: compare DESCRIPTION LISTING SEED [--coverage] [--scale PERCENT] [--only AREA [CASE]]");
+        exit(2)
+    });
+    let shipped = std::fs::read(&options.description).unwrap_or_else(|error| {
+        eprintln!("{}: {}", options.description, error);
+        exit(2)
+    });
+    std::panic::set_hook(Box::new(|_| {}));
+    let maker = Maker::new(options.seed, shipped);
+    let mut coverage = Coverage::new();
+    let mut counts = Vec::new();
+    let wanted = |name: &str| options.area.as_deref().map_or(true, |only| only == name);
+    for (area, (name, _)) in AREAS.iter().enumerate() {
+        if wanted(name) {
+            let range = options.case.map_or(0..maker.count(area, options.scale), |case| case..case + 1);
+            counts.push(format!("{} {}", name, compare_area(&maker, area, range, &mut coverage)));
+        }
+    }
+    if wanted("listing") && options.listing != "-" {
+        let range = options.case.map_or(0..LISTINGS * options.scale / 100, |case| case..case + 1);
+        counts.push(format!("listing {}", compare_listings(&options, range)));
+    }
+    finish(&options, &coverage, &counts);
+}
+
+/// The line of counts; status 1 if anything was never tried, unless only a part was asked for.
+fn finish(options: &Options, coverage: &Coverage, counts: &[String]) {
+    if options.coverage {
+        coverage.print();
+    }
+    let (things, steps) = coverage.totals();
+    if options.area.is_some() {
+        println!("no difference: {}; seed {}", counts.join(", "), options.seed);
+        return;
+    }
+    let missing = coverage.missing();
+    if !missing.is_empty() {
+        println!("never tried, with seed {}: {}", options.seed, missing.join("; "));
+        exit(1);
+    }
+    println!("no difference: {}; {} steps watched, all of {} things tried; seed {}", counts.join(", "), steps, things, options.seed);
+}

@@ -1,0 +1,22 @@
+//! Document 01 in plain Rust, written from the document alone: it shares no code and no tables with the Rattle sources.
+//! `emulate`, `read` and `evaluate` answer as the C entries of include/guavachisel.h do; `listing` is the day listing.
+
+pub mod compile;
+pub mod cycle;
+pub mod description;
+pub mod emulate;
+pub mod evaluate;
+pub mod expression;
+pub mod lines;
+pub mod listing;
+pub mod machine;
+pub mod memory_reference;
+pub mod operate;
+pub mod state;
+pub mod tokens;
+pub mod watch;
+
+pub use description::read;
+pub use emulate::emulate;
+pub use evaluate::evaluate;
+pub use listing::listing;

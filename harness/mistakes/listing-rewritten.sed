@@ -1,0 +1,4 @@
+# The word shown is the one there after the step.
+# area: listing
+# file: listing.rs
+s/page += \&format!/let i = word_at(\&memory, pc);\n        page += \&format!/

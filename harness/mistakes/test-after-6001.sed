@@ -1,0 +1,4 @@
+# 6001 does not omit its step's interrupt test.
+# area: emulate
+# file: machine.rs
+/return; \/\/ this/d

@@ -1,0 +1,4 @@
+pub mod Digits
+pub mod Entering
+pub mod Scanning
+pub mod Examples

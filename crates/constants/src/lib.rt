@@ -22,7 +22,7 @@ pub enum Constant {
 }
 
 // The number that n digits from a place stand for.
-fn digits_value(s: &[u8], at: usize, n: usize, base: u64) -> u64
+pub fn digits_value(s: &[u8], at: usize, n: usize, base: u64) -> u64
     requires { ⌜ at + n ≤ length (now s) ⌝ ∗ ⌜ n ≤ 16 ⌝ ∗ ⌜ base ≤ 10 ⌝ }
     ensures { λ r. ⌜ r ≡ numberAt base (now (s .entry)) at n 0 ⌝ }
 {

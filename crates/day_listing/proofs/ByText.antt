@@ -12,7 +12,8 @@ use Rattle.state.specs.declared.Verdict.{Verdict}
 use Rattle.state.specs.declared.Verdict.the-variants.{Fit}
 use Rattle.state.proofs.Accepted.{acceptable-memory}
 use Rattle.day_listing.specs.Listing.{runListing, refusedLine, listingOf, dayListing, checkedListing, scanListing}
-use Rattle.image.specs.Scan.{Scan, unfitLine, scanOf, Countable}
+use Rattle.image.specs.Pass.{Countable}
+use Rattle.image.specs.Scan.{Scan, unfitLine, scanOf}
 use Rattle.image.proofs.ByLines.{by-lines}
 use Rattle.image.proofs.Sound.{reached-acceptable}
 

@@ -1,5 +1,5 @@
 // The day listing: a text of octal words is loaded into the machine, and the text of its run is written.
-mod lines;
+pub mod lines;
 mod run;
 
 use image::Scanner;

@@ -5,6 +5,8 @@ use page::put_decimal;
 use page::put_field;
 use page::put_text;
 ghost use Prim.Native.Nat.{_+_, _<_, _≤_};
+ghost use lib.ListN.{length};
+ghost use Rattle.page.specs.Text.{decimal};
 ghost use Rattle.word.specs.Choice.{choose};
 ghost use Rattle.state.specs.declared.Reason.the-variants.{Halted, Spent};
 ghost use Rattle.day_listing.specs.Listing.{stepLine, endLine, refusedLine};
@@ -14,7 +16,7 @@ ghost use Rattle.day_listing.specs.Stepped.{pageBytes};
 const LINE_FEED: u8 = 10;
 
 // The line of a step.
-pub fn put_step_line(
+pub(crate) fn put_step_line(
     page: &mut [u8; PAGE_BYTES],
     at: usize,
     n: u64,
@@ -35,8 +37,8 @@ pub fn put_step_line(
 }
 
 // The last line of a run: it halted where RUN is 0, else its budget is spent.
-pub fn put_end_line(page: &mut [u8; PAGE_BYTES], at: usize, steps: u64, run: u64) -> usize
-    requires { ⌜ at + 14 ≤ pageBytes ⌝ ∗ ⌜ steps < 100 ⌝ }
+pub fn put_end_line(page: &mut [u8], at: usize, steps: u64, run: u64) -> usize
+    requires { ⌜ at + 12 + length (decimal steps) ≤ length (now page) ⌝ }
     ensures { λ r. ⌜ Written (endLine steps (choose run Spent Halted)) (now (page .entry)) at (now (page .exit)) r ⌝ }
 {
     let count = put_text(page, at, b"end\t");
@@ -49,7 +51,8 @@ pub fn put_end_line(page: &mut [u8; PAGE_BYTES], at: usize, steps: u64, run: u64
 }
 
 // The one line of a refused text.
-pub fn put_refused_line(page: &mut [u8; PAGE_BYTES], n: u64) -> usize
+pub fn put_refused_line(page: &mut [u8], n: u64) -> usize
+    requires { ⌜ 29 ≤ length (now page) ⌝ }
     ensures { λ r. ⌜ Page (refusedLine n) (now (page .entry)) (now (page .exit)) r ⌝ }
 {
     let number = put_text(page, 0, b"refused\t");

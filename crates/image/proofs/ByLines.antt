@@ -14,7 +14,8 @@ use borrow.Author.Tests.{lt-ltb, le-ltb, ne-eqb, eqb-true}
 use Rattle.word.specs.Choice.{on, pick}
 use Rattle.page.specs.Text.{lineFeed}
 use Rattle.image.specs.Input.{linesOf, form, formed, fit, addressOf, wordOf, clear, loaded, firstUnfit}
-use Rattle.image.specs.Scan.{Scan, held, accepted, refusing, scanByte, scanFrom, scanOf, unfitLine, Countable}
+use Rattle.image.specs.Pass.{pass, Countable}
+use Rattle.image.specs.Scan.{Scan, held, accepted, refusing, scanByte, scanOf, unfitLine}
 use Rattle.image.proofs.Form.{formed-snoc, fit-whole, fit-short, fit-broken, shiftedAll, shifted-snoc, whole}
 use Rattle.image.proofs.Cut.{pushes, cut-before, cut-feed, pushes-some, pushes-none, first}
 
@@ -81,8 +82,8 @@ ends n p memory e l h =
     (cc (w .address, w .word, mod-eq-of-lt h, add-one n))
 
 -- a refused line stays refused
-stays : (s : Scan) (text : List ℕ) → on (s .scanner .refused) ≡ true → scanFrom s text ≡ s
-unfolding scanFrom scanByte
+stays : (s : Scan) (text : List ℕ) → on (s .scanner .refused) ≡ true → pass scanByte s text ≡ s
+unfolding pass scanByte
 stays s [] e = refl
 stays s (b ∷ text) e = rw (e, scanByte) (stays s text e)
 
@@ -110,14 +111,14 @@ fit-first n line memory lines s e later =
 abbrev Agrees : List ℕ → Type 0
 Agrees text =
     (n : ℕ) (p memory : List ℕ) → formed 0 p ≡ true → length p ≤ 9 → 0 < n → n + (length p + length text) ≤ 2 ^ 64
-    → Holds n (linesOf (p ++ text)) memory (scanFrom (inLine n p memory) text)
+    → Holds n (linesOf (p ++ text)) memory (pass scanByte (inLine n p memory) text)
 
 is-on : (n : ℕ) → 0 < n → on n ≡ true
 is-on n h = ap not (ne-eqb n 0 (λ q. omega arith))
 
 -- at the end of the text no line may have begun
 at-end : Agrees []
-unfolding scanFrom linesOf firstUnfit loaded
+unfolding pass linesOf firstUnfit loaded
 at-end n [] memory e h k q = record { unfit = refl; loads = λ z. refl }
 at-end n (b ∷ p) memory e h k q =
     let one : linesOf ((b ∷ p) ++ []) ≡ (b ∷ p) ∷ [] = cut-before 0 (b ∷ p) [] e (omega arith) ∙ pushes-none b p in
@@ -127,7 +128,7 @@ at-end n (b ∷ p) memory e h k q =
 module _ (b : ℕ) (text : List ℕ) (n : ℕ) (p memory : List ℕ) (e : formed 0 p ≡ true) (h : length p ≤ 9) (k : 0 < n)
     (q : n + (length p + suc (length text)) ≤ 2 ^ 64) where
   abbrev Step : Type 0
-  Step = Holds n (linesOf (p ++ b ∷ text)) memory (scanFrom (scanByte (inLine n p memory) b) text)
+  Step = Holds n (linesOf (p ++ b ∷ text)) memory (pass scanByte (scanByte (inLine n p memory) b) text)
 
   refused : form (length p) b ≡ false → Step
   unfolding scanByte
@@ -165,11 +166,11 @@ module _ (b : ℕ) (text : List ℕ) (n : ℕ) (p memory : List ℕ) (e : formed
   one-more later false f = refused f
 
 agrees : (text : List ℕ) → Agrees text
-unfolding scanFrom
+unfolding pass
 agrees [] = at-end
 agrees (b ∷ text) = λ n p memory e h k q. one-more b text n p memory e h k q (agrees text) (form (length p) b) refl
 
 -- the first unfit line of a text, and the memory that it loads where there is none
 pub by-lines : (text : List ℕ) → Countable text → Holds 1 (linesOf text) clear (scanOf text)
-unfolding scanOf formed
+unfolding formed
 by-lines text h = agrees text 1 [] clear refl (omega arith) (omega arith) (omega arith)

@@ -15,7 +15,8 @@ use Rattle.state.specs.Acceptable.{Acceptable}
 use Rattle.state.proofs.Accepted.{store-acceptable}
 use lib.Dec.{ltb}
 use Rattle.image.specs.Input.{form, clear}
-use Rattle.image.specs.Scan.{Scan, held, fresh, accepted, scanByte, scanFrom, scanOf, Reached}
+use Rattle.image.specs.Pass.{pass}
+use Rattle.image.specs.Scan.{Scan, accepted, scanByte, begun, Reached}
 
 pub clear-acceptable : Acceptable clear
 unfolding clear
@@ -44,13 +45,11 @@ byte s b true u e f d = rw (e, scanByte) d
 byte s b false true e f d = rw (e, f, scanByte) (accepts s b _ _ _ refl refl refl d)
 byte s b false false e f d = rw (e, f, scanByte) (record { word = d .word; memory = d .memory })
 
-pass : (s : Scan) (text : List ℕ) → Sound s → Sound (scanFrom s text)
-unfolding scanFrom
-pass s [] d = d
-pass s (b ∷ text) d = pass (scanByte s b) text (byte s b _ _ refl refl d)
+after : (s : Scan) (text : List ℕ) → Sound s → Sound (pass scanByte s text)
+unfolding pass
+after s [] d = d
+after s (b ∷ text) d = after (scanByte s b) text (byte s b _ _ refl refl d)
 
 pub reached-acceptable : (s : Scan) → Reached s → Acceptable (s .memory)
-unfolding scanOf
 reached-acceptable s r =
-    subst (λ (x : Scan). Acceptable (x .memory)) (sym (r .is))
-    (pass (held (fresh 1) clear) (r .text) (record { word = omega arith; memory = clear-acceptable }) .memory)
+    subst (λ (x : Scan). Acceptable (x .memory)) (sym (r .is)) (after begun (r .text) (record { word = omega arith; memory = clear-acceptable }) .memory)

@@ -1,16 +1,16 @@
 -- The scanner: what is kept of a text while it is read byte by byte. A reader need not believe these definitions: the law `by-lines`
 -- shows that they come to what Input says by lines.
 -- Assumes nothing.
-use mathlib.Core.Path.{_≡_}
-use mathlib.Core.List.{List, [], _∷_, _++_}
+use mathlib.Core.List.{List}
 use mathlib.Core.Bool.{true, false}
-use Prim.Native.Nat.{ℕ, _+_, _*_, _%_, _^_, _<_}
-use lib.ListN.{length, set}
+use Prim.Native.Nat.{ℕ, _+_, _*_, _%_, _^_}
+use lib.ListN.{set}
 use lib.Dec.{ltb}
 use Rattle.word.specs.Choice.{on, choose}
 use Rattle.word.specs.Word.{wordBits}
 use Rattle.state.specs.Limits.{memoryWords}
 use Rattle.image.specs.Input.{form, clear}
+use Rattle.image.specs.Pass.{pass, Passed, Left, nextLine}
 use Rattle.image.specs.declared.Scanner.{Scanner}
 
 -- the scanner and the memory that it loads
@@ -28,10 +28,6 @@ fresh n = record { line = n; column = 0; address = 0; word = 0; refused = 0 }
 -- a word of four octal digits with one more at its right end
 abbrev pub shifted : ℕ → ℕ → ℕ
 shifted x b = (x * 8 + b % 8) % 2 ^ wordBits
-
--- the number after a line's: lines are counted in 64 bits
-abbrev pub nextLine : ℕ → ℕ
-nextLine n = (n + 1) % 2 ^ 64
 
 -- a byte that may stand at the column: columns 0 to 3 the address, 4 the TAB, 5 to 8 the word, 9 the LF
 unfoldable pub accepted : Scan → ℕ → Scan
@@ -60,28 +56,21 @@ scanByte s b =
       | false ↦ elim (form (s .scanner .column) b) [ true ↦ accepted s b | false ↦ held (refusing (s .scanner)) (s .memory) ]
     ]
 
-unfoldable pub scanFrom : Scan → List ℕ → Scan
-scanFrom s [] = s
-scanFrom s (b ∷ bytes) = scanFrom (scanByte s b) bytes
+-- before the first byte
+abbrev pub begun : Scan
+begun = held (fresh 1) clear
 
 -- the scanner and the memory after a text
-unfoldable pub scanOf : List ℕ → Scan
-scanOf text = scanFrom (held (fresh 1) clear) text
+abbrev pub scanOf : List ℕ → Scan
+scanOf text = pass scanByte begun text
 
 -- the first unfit line, where the text ends here: a line that has begun lacks its LF
 abbrev pub unfitLine : Scanner → ℕ
 unfitLine s = choose (s .refused) (s .refused) (choose (s .column) (s .line) 0)
 
--- what reading a chunk comes to, from whatever scanner and memory it starts; and so of a text that goes on with the chunk
-pub record Scanned (s : Scan) (chunk : List ℕ) (t : Scan) : Type 0 where
-  pub every : t ≡ scanFrom s chunk
-  pub goes-on : (text : List ℕ) → s ≡ scanOf text → t ≡ scanOf (text ++ chunk)
+-- what reading a chunk comes to, and what some text leaves
+abbrev pub Scanned : Scan → List ℕ → Scan → Type 0
+Scanned s chunk t = Passed scanByte begun s chunk t
 
--- a scanner and a memory that some text leaves
-pub record Reached (s : Scan) : Type 0 where
-  pub text : List ℕ
-  pub is : s ≡ scanOf text
-
--- Lines are counted in 64 bits. Document 01 sets the input no limit; a text of fewer than 2 ^ 64 bytes has every line's number right.
-abbrev pub Countable : List ℕ → Type 0
-Countable text = length text < 2 ^ 64
+abbrev pub Reached : Scan → Type 0
+Reached s = Left scanByte begun s

@@ -7,8 +7,10 @@ ghost use Rattle.emulator.specs.Emulate as emulation;
 ghost use Rattle.shipped.specs.Text.{shippedText};
 ghost use Rattle.shipped.specs.Claim.{Together};
 
+pub const DESCRIPTION_BYTES: usize = 1790;
+
 // description/pdp8.rows, byte for byte.
-const DESCRIPTION: [u8; 1790] = *b"rows\t1\n\
+const DESCRIPTION: [u8; DESCRIPTION_BYTES] = *b"rows\t1\n\
 reg\tLAC\t13\n\
 reg\tPC\t12\n\
 reg\tRUN\t1\n\
@@ -106,6 +108,13 @@ do\t1\tINTERRUPT.ENABLE\t0\n\
 at\trestart\n\
 ";
 
+// The shipped description.
+pub fn shipped_text() -> [u8; DESCRIPTION_BYTES]
+    ensures { λ r. ⌜ r ≡ shippedText ⌝ }
+{
+    DESCRIPTION
+}
+
 // What the two programs answer.
 pub struct Both {
     pub emulated: emulator::Answer,
@@ -121,8 +130,8 @@ fn evaluate_shipped(
 ) -> evaluator::Answer
     ensures { λ r. ⌜ report r (now (memory .exit)) (now (rows .exit)) ≡ evaluate shippedText (registers .values) (now (memory .entry)) budget (now (rows .entry)) ⌝ }
 {
-    let description = DESCRIPTION;
-    evaluator::evaluate(&description, memory, registers, budget, rows)
+    let text = shipped_text();
+    evaluator::evaluate(&text, memory, registers, budget, rows)
 }
 
 // Emulator and evaluator, each on its own memory.

@@ -2,7 +2,8 @@
 use borrow.Author.Needs.{needs}
 use mathlib.Core.Path.{ap}
 use Rattle.image.specs.Input.{clear}
-use Rattle.image.specs.Scan.{held, scanFrom, scanOf}
+use Rattle.image.specs.Pass.{pass}
+use Rattle.image.specs.Scan.{held}
 use Rattle.image.proofs.begin.Statement.{statement}
 use Rattle.image.proofs.begin.Tie as tie
 
@@ -10,7 +11,7 @@ at-line-requires : tie.Need-at-line-requires
 at-line-requires c κs = search needs
 
 returns : tie.Need-returns
-unfolding scanOf scanFrom clear
+unfolding pass clear
 returns c = ap (λ s. held s clear) (c .at-line .ensures)
 
 pub begin-spec : {M : Type 1} → statement M

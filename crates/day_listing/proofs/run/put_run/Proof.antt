@@ -12,6 +12,7 @@ use Rattle.machine.specs.State.{at as state}
 use Rattle.day_listing.specs.Listing.{budget}
 use Rattle.day_listing.specs.Stepped.{pageBytes}
 use Rattle.page.proofs.Writing.{written-then, written-page}
+use Rattle.page.proofs.Numbers.{decimal-length}
 use Rattle.day_listing.proofs.Sizes.{end-line-size}
 use Rattle.day_listing.proofs.Rest.{Listed, listed-none, listed-more, listed-all, run-listing}
 use Rattle.day_listing.proofs.run.put_run.Statement.{statement}
@@ -58,6 +59,7 @@ loop-again c = let here = c .before .before .before in
 
 put-end-line-requires : tie.Need-put-end-line-requires Inv-loop μ-loop
 put-end-line-requires c κs = let head = c .before .before .before in
+    let short = decimal-length 1 (head .loop .w .done) (omega (arith, head .loop .inv .count)) in
     omega (arith, head .loop .inv .room, head .loop .inv .count, head .before .put-text .ensures .place)
 
 returns : tie.Need-returns Inv-loop μ-loop

@@ -1,0 +1,5 @@
+pub mod RowTexts
+pub mod RegisterLines
+pub mod Sizes
+pub mod Answers
+pub mod ByText

@@ -1,0 +1,25 @@
+-- `explanation::explain`: the whole text is one chunk.
+use borrow.Author.Needs.{needs}
+use mathlib.Core.Path.{ap, _∙_}
+use mathlib.Core.List.{[]}
+use Rattle.explanation.specs.Explanation.{scanExplanation}
+use Rattle.explanation.proofs.ByText.{scan-explanation}
+use Rattle.explanation.proofs.explain.Statement.{statement}
+use Rattle.explanation.proofs.explain.Tie as tie
+
+begin-requires : tie.Need-begin-requires
+begin-requires c κs = search needs
+
+scanned-requires : tie.Need-scanned-requires
+scanned-requires c κs = search needs
+
+explanation-requires : tie.Need-explanation-requires
+explanation-requires c κs = search needs
+
+returns : tie.Need-returns
+returns c = let text = c .before .before .before .before .before .before .before .before .args .text .now in
+    let held = c .before .before .before .scanned .ensures .goes-on [] (c .before .before .before .before .before .begin .ensures) in
+    rw (← (ap scanExplanation held ∙ scan-explanation text (search needs))) (c .explanation .ensures)
+
+pub explain-spec : {M : Type 1} → statement M
+explain-spec = tie.close (tie.spec begin-requires scanned-requires explanation-requires returns)

@@ -1,0 +1,36 @@
+-- The rows of the shipped description, each "with its number, a TAB and its text as shipped".
+-- Assumes nothing.
+use mathlib.Core.List.{List, [], _∷_, _++_}
+use mathlib.Core.Bool.{Bool, true, false, _||_}
+use Prim.Native.Nat.{ℕ, _+_, _-_, _*_, _≤_}
+use lib.ListN.{getD}
+use Rattle.page.specs.Text.{ascii, tab, lineFeed, decimal}
+use Rattle.page.specs.Written.{Written}
+use Rattle.characters.specs.Characters.{same}
+use Rattle.fields.specs.Fields.{Line, lines, field}
+use Rattle.shipped.specs.Text.{shippedText}
+
+-- "`do` and `go` lines are rows"
+abbrev pub isRow : List ℕ → Bool
+isRow line = same (field 0 line) (ascii "do") || same (field 0 line) (ascii "go")
+
+unfoldable pub rowTexts : List Line → List (List ℕ)
+rowTexts [] = []
+rowTexts (l ∷ ls) = elim (isRow (l .bytes)) [ true ↦ l .bytes ∷ rowTexts ls | false ↦ rowTexts ls ]
+
+-- "numbered from 1": the text of row k of a description; nothing where there is none
+abbrev pub rowOf : ℕ → List ℕ → List ℕ
+rowOf k text = getD (rowTexts (lines text)) (k - 1) []
+
+-- row k "as shipped"
+unfoldable pub rowLine : ℕ → List ℕ
+rowLine k = decimal k ++ tab ∷ rowOf k shippedText ++ lineFeed ∷ []
+
+unfoldable pub rowLines : List ℕ → List ℕ
+rowLines [] = []
+rowLines (k ∷ ks) = rowLine k ++ rowLines ks
+
+-- the lines of n rows stand on the page from a place on, to the place `end`; none has more than 55 bytes
+pub record Listed (text before : List ℕ) (at n : ℕ) (after : List ℕ) (end : ℕ) : Type 0 where
+  pub written : Written text before at after end
+  pub room : end ≤ at + 55 * n

@@ -1,0 +1,160 @@
+// The explanation of a run: what an inquiry asks for is run by emulator and evaluator, and the text of how it ended is written.
+mod registers;
+mod rows;
+
+use day_listing::lines;
+use evaluator::Outcome;
+use inquiry::Scanner;
+use inquiry::entries::REGISTERS;
+use machine::Machine;
+use shipped::Both;
+use state::MEMORY_WORDS;
+use state::ROW_PLACES;
+use turn::Registers;
+ghost use mathlib.Core.Path.{_≡_};
+ghost use mathlib.Core.List.{_++_};
+ghost use Prim.Native.Nat.{_≤_};
+ghost use lib.ListN.{length, take};
+ghost use Rattle.word.specs.Choice.{choose};
+ghost use Rattle.state.specs.declared.Reason.the-variants.{Halted, Spent};
+ghost use Rattle.machine.specs.State.{values};
+ghost use Rattle.page.specs.Written.{Page};
+ghost use Rattle.day_listing.specs.Listing.{endLine};
+ghost use Rattle.emulator.specs.Emulate as emulation;
+ghost use Rattle.evaluator.specs.Evaluate.{report};
+ghost use Rattle.shipped.specs.Claim.{Together};
+ghost use Rattle.inquiry.specs.Input.{machineRegisters};
+ghost use Rattle.inquiry.specs.Scan.{held};
+ghost use Rattle.explanation.specs.Rows.{rowLines};
+ghost use Rattle.explanation.specs.Explanation.{machineOf, placesOf, registerLines, answered as Explanation·answered, explanation as Explanation·explanation, scanExplanation, listedIn};
+
+// The bytes of a page that an explanation is written to.
+pub const PAGE_BYTES: usize = 8192;
+
+// The registers of an inquiry, as the emulator takes them.
+fn machine_of(rs: [u16; REGISTERS]) -> Machine
+    ensures { λ r. ⌜ r ≡ machineOf rs ⌝ }
+{
+    Machine {
+        lac: rs[0],
+        pc: rs[1],
+        run: rs[2],
+        enable: rs[3],
+        request: rs[4],
+        switches: rs[5],
+    }
+}
+
+// And as the evaluator takes them.
+fn places_of(m: Machine) -> Registers
+    ensures { λ r. ⌜ r .values ≡ placesOf m ⌝ }
+{
+    Registers {
+        values: [
+            m.lac,
+            m.pc,
+            m.run,
+            m.enable,
+            m.request,
+            m.switches,
+            0,
+            0,
+            0,
+            0,
+            0,
+            0,
+            0,
+            0,
+            0,
+            0,
+        ],
+    }
+}
+
+// Runs emulator and evaluator, each on its own memory.
+fn run_on(
+    first: &mut [u16; MEMORY_WORDS],
+    second: &mut [u16; MEMORY_WORDS],
+    m: Machine,
+    budget: u64,
+    list: &mut [u8; ROW_PLACES],
+) -> Both
+    ensures { λ r. ⌜ Together m (placesOf m) (now (first .entry)) (now (second .entry)) budget (now (list .entry))
+        (emulation.report m (r .emulated) (now (first .exit))) (report (r .evaluated) (now (second .exit)) (now (list .exit))) ⌝ }
+{
+    shipped::run_both(first, second, m, places_of(m), budget, list)
+}
+
+// How many rows the evaluator lists.
+fn listed_in(o: Outcome) -> usize
+    ensures { λ r. ⌜ r ≡ listedIn o ⌝ }
+{
+    match o {
+        Outcome::Ran(_, _, n) => n,
+        Outcome::Unread(_, _) => 0,
+        Outcome::Refused(_) => 0,
+    }
+}
+
+// How a run ended, its registers, and the first n rows of a list.
+fn put_answer(
+    page: &mut [u8; PAGE_BYTES],
+    m: Machine,
+    steps: u64,
+    list: &[u8; ROW_PLACES],
+    n: usize,
+) -> usize
+    requires { ⌜ n ≤ length (now list) ⌝ }
+    ensures { λ r. ⌜ Page (endLine steps (choose (m .run) Spent Halted) ++ registerLines machineRegisters (values m) ++ rowLines (take n (now (list .entry))))
+        (now (page .entry)) (now (page .exit)) r ⌝ }
+{
+    let end = lines::put_end_line(page, 0, steps, m.run as u64);
+    let last = registers::put_registers(page, end, m);
+    rows::put_rows(page, last, list, n)
+}
+
+// Runs both engines and writes what came of it; nothing where they refuse.
+fn answered(
+    memory: &[u16; MEMORY_WORDS],
+    m: Machine,
+    budget: u64,
+    page: &mut [u8; PAGE_BYTES],
+) -> usize
+    ensures { λ r. ⌜ Page (Explanation·answered m (now (memory .entry)) budget) (now (page .entry)) (now (page .exit)) r ⌝ }
+{
+    let mut first = *memory;
+    let mut second = *memory;
+    let mut list = [0u8; ROW_PLACES];
+    let both = run_on(&mut first, &mut second, m, budget, &mut list);
+    let emulated = both.emulated;
+    let evaluated = both.evaluated;
+    let outcome = evaluated.outcome;
+    let n = listed_in(outcome);
+    match emulated {
+        emulator::Answer::Refused(_) => 0,
+        emulator::Answer::Ran(after, _, steps) => put_answer(page, after, steps, &list, n),
+    }
+}
+
+// Writes the explanation of a text that has been scanned to the start of a page, and answers how many bytes it has: none where
+// registers, budget or memory are unfit for a run, which no text leaves.
+pub fn explanation(memory: &[u16; MEMORY_WORDS], s: Scanner, page: &mut [u8; PAGE_BYTES]) -> usize
+    ensures { λ r. ⌜ Page (scanExplanation (held s (now (memory .entry)))) (now (page .entry)) (now (page .exit)) r ⌝ }
+{
+    let refused = inquiry::unfit_line(s);
+    if refused != 0 {
+        return lines::put_refused_line(page, refused);
+    }
+    let rs = s.registers;
+    answered(memory, machine_of(rs), s.budget, page)
+}
+
+// Writes the explanation of a whole text to the start of a page, and answers how many bytes it has.
+pub fn explain(text: &[u8], page: &mut [u8; PAGE_BYTES]) -> usize
+    ensures { λ r. ⌜ Page (Explanation·explanation (now (text .entry))) (now (page .entry)) (now (page .exit)) r ⌝ }
+{
+    let mut memory = [0u16; MEMORY_WORDS];
+    let s = inquiry::begin(&mut memory);
+    let t = inquiry::scanned(&mut memory, s, text);
+    explanation(&memory, t, page)
+}

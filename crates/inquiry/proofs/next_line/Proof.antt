@@ -1,0 +1,17 @@
+-- `inquiry::next_line`: one line on, and no byte of it.
+use borrow.Author.Needs.{needs}
+use mathlib.Core.Path.{ap}
+use mathlib.Core.List.{[]}
+use Rattle.inquiry.specs.Scan.{held, atNextLine}
+use Rattle.inquiry.specs.Scan.{Scan}
+use Rattle.inquiry.proofs.next_line.Statement.{statement}
+use Rattle.inquiry.proofs.next_line.Tie as tie
+
+wrapping-add-u64-requires : tie.Need-wrapping-add-u64-requires
+wrapping-add-u64-requires c κs = search needs
+
+returns : tie.Need-returns
+returns c = λ memory. ap (λ n. record { line = n; part = []; refused = c .before .args .s .refused; inquiry = held (c .before .args .s) memory .inquiry }) (c .wrapping-add-u64 .ensures)
+
+pub next-line-spec : {M : Type 1} → statement M
+next-line-spec = tie.close (tie.spec wrapping-add-u64-requires returns)

@@ -1,0 +1,148 @@
+// What a run is asked for, read byte by byte: lines of an image, machine registers and a budget.
+pub mod entries;
+
+use entries::Entry;
+use entries::REGISTERS;
+use fields::LINE_FEED;
+use state::MEMORY_WORDS;
+ghost use mathlib.Core.Path.{_≡_};
+ghost use mathlib.Core.List.{List, []};
+ghost use Prim.Native.Nat.{ℕ};
+ghost use lib.ListN.{set};
+ghost use Rattle.inquiry.specs.Scan.{held, refusing, entering, atNextLine, ended, scanByte, scanOf, unfitLine, Scanned};
+
+pub const LINE_BYTES: usize = 24;
+
+// The place in the input: the line's number from 1 and the bytes read of it; the machine registers and the budget so far; and the
+// first line that was refused, or 0.
+pub struct Scanner {
+    pub line: u64,
+    pub size: usize,
+    pub bytes: [u8; LINE_BYTES],
+    pub registers: [u16; REGISTERS],
+    pub budget: u64,
+    pub refused: u64,
+}
+
+// The line is unfit.
+fn refused(s: Scanner) -> Scanner
+    ensures { λ r. ⌜ ((memory : List ℕ) → held r memory ≡ refusing (held s memory)) ⌝ }
+{
+    let mut next = s;
+    next.refused = s.line;
+    next
+}
+
+// At the start of the next line.
+fn next_line(s: Scanner) -> Scanner
+    ensures { λ r. ⌜ ((memory : List ℕ) → held r memory ≡ atNextLine (held s memory)) ⌝ }
+{
+    let mut next = s;
+    next.line = std::num::wrapping_add_u64(s.line, 1);
+    next.size = 0;
+    next
+}
+
+// A word of the memory. An address past the last is none.
+fn load(memory: &mut [u16], address: usize, word: u16)
+    ensures { λ r. ⌜ now (memory .exit) ≡ set (now (memory .entry)) address word ⌝ }
+{
+    if address < memory.len() {
+        memory[address] = word;
+    }
+}
+
+// What a line says, entered. A place past the last is none.
+fn entered(memory: &mut [u16; MEMORY_WORDS], s: Scanner, e: Entry) -> Scanner
+    ensures { λ r. ⌜ held r (now (memory .exit)) ≡ entering e (held s (now (memory .entry))) ⌝ }
+{
+    let mut next = s;
+    match e {
+        Entry::Word(address, word) => {
+            load(memory, address, word);
+        }
+        Entry::Register(place, value) => {
+            if place < REGISTERS {
+                next.registers[place] = value;
+            }
+        }
+        Entry::Budget(steps) => {
+            next.budget = steps;
+        }
+        Entry::Unfit => {}
+    }
+    next
+}
+
+// The scanner and the memory after the line's LF.
+fn end_line(memory: &mut [u16; MEMORY_WORDS], s: Scanner) -> Scanner
+    ensures { λ r. ⌜ held r (now (memory .exit)) ≡ ended (held s (now (memory .entry))) ⌝ }
+{
+    let buffer = s.bytes;
+    let e = entries::entry_of(characters::part(&buffer, 0, s.size));
+    if entries::is_unfit(e) {
+        return refused(s);
+    }
+    next_line(entered(memory, s, e))
+}
+
+// The scanner and the memory after one more byte.
+fn scan_byte(memory: &mut [u16; MEMORY_WORDS], s: Scanner, b: u8) -> Scanner
+    ensures { λ r. ⌜ held r (now (memory .exit)) ≡ scanByte (held s (now (memory .entry))) b ⌝ }
+{
+    if s.refused != 0 {
+        return s;
+    }
+    if b == LINE_FEED {
+        return end_line(memory, s);
+    }
+    let size = s.size;
+    if size < LINE_BYTES {
+        let mut next = s;
+        next.bytes[size] = b;
+        next.size = size + 1;
+        return next;
+    }
+    refused(s)
+}
+
+// A cleared memory, and the scanner of an empty text.
+pub fn begin(memory: &mut [u16; MEMORY_WORDS]) -> Scanner
+    ensures { λ r. ⌜ held r (now (memory .exit)) ≡ scanOf [] ⌝ }
+{
+    *memory = [0; MEMORY_WORDS];
+    Scanner {
+        line: 1,
+        size: 0,
+        bytes: [0; LINE_BYTES],
+        registers: [0, 0o200, 1, 0, 0, 0],
+        budget: 16,
+        refused: 0,
+    }
+}
+
+// The scanner and the memory after the bytes of a chunk: those of a text that goes on with it.
+pub fn scanned(memory: &mut [u16; MEMORY_WORDS], s: Scanner, chunk: &[u8]) -> Scanner
+    ensures { λ r. ⌜ Scanned (held s (now (memory .entry))) (now (chunk .entry)) (held r (now (memory .exit))) ⌝ }
+{
+    let mut at = s;
+    let mut i = 0;
+    while i < chunk.len() {
+        at = scan_byte(memory, at, chunk[i]);
+        i += 1;
+    }
+    at
+}
+
+// The number of the first unfit line of a text that ends here, or 0: a line that has begun lacks its LF.
+pub fn unfit_line(s: Scanner) -> u64
+    ensures { λ r. ⌜ r ≡ unfitLine (held s []) ⌝ }
+{
+    if s.refused != 0 {
+        s.refused
+    } else if s.size != 0 {
+        s.line
+    } else {
+        0
+    }
+}

@@ -1,8 +1,8 @@
 // The explanation of standard input: reads it in chunks and writes what the library makes of them.
-use explanation::PAGE_BYTES;
 use inquiry::Scanner;
 use libc::STDIN_FILENO;
 use libc::STDOUT_FILENO;
+use run_lines::PAGE_BYTES;
 use state::MEMORY_WORDS;
 ghost use Rattle.inquiry.specs.Scan.{held, Reached};
 

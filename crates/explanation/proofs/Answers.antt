@@ -1,8 +1,7 @@
 -- What the two engines answer is what is explained: where nothing is refused they ran, and the rows listed are those that acted.
 -- Assumes nothing.
-use mathlib.Core.Path.{_≡_, refl, sym, ap, ap₂, _∙_, subst}
-use mathlib.Core.Bool.{true, false}
-use mathlib.Core.List.{List, [], _∷_, _++_}
+use mathlib.Core.Path.{_≡_, refl, sym, ap, _∙_, subst}
+use mathlib.Core.List.{List, [], _++_}
 use Prim.Native.Nat.{ℕ, zero, suc, _+_, _^_, _≤_, _<_}
 use native.Mathlib.Omega.{arith}
 use lib.ListN.{length, getD, take, drop, replicate, length-append}
@@ -34,14 +33,15 @@ use Rattle.evaluator.specs.Evaluate.{evaluate, widthsOf}
 use Rattle.evaluator.specs.declared.Outcome.{Outcome}
 use Rattle.evaluator.specs.declared.Outcome.the-variants.{Ran, Unread, Refused}
 use Rattle.day_listing.specs.Listing.{endLine}
-use Rattle.inquiry.specs.Input.{machineRegisters}
+use Rattle.entry.specs.Lines.{machineRegisters}
 use Rattle.characters.proofs.Tests.{by-test}
 use Rattle.shipped.specs.Text.{shippedText}
 use Rattle.shipped.specs.Shipped.{shipped}
 use Rattle.shipped.specs.Claim.{Start, Claim, cyclesOf}
 use Rattle.shipped.proofs.Agree.{runs-agree}
-use Rattle.explanation.specs.Rows.{rowLines}
-use Rattle.explanation.specs.Explanation.{placesOf, registerLines, told, explained, checkedBy, answered, listedIn}
+use Rattle.run_lines.specs.Registers.{registerLines}
+use Rattle.run_lines.specs.Rows.{rowLines}
+use Rattle.explanation.specs.Explanation.{placesOf, told, explained, checkedBy, answered, listedIn}
 
 -- no refusal has the number 0
 numbered : (why : Refusal) → numberOf why ≡ 0 → ⊥

@@ -9,10 +9,8 @@ use lib.ListN.{getD}
 use borrow.Author.Tests.{ne-eqb}
 use Rattle.word.specs.Choice.{pick, choose}
 use Rattle.state.specs.Refusals.{orElse}
-use Rattle.state.specs.Checks.{checkMemory, checkRegisters, checkBudget, checkState}
 use Rattle.state.specs.Acceptable.{Fitting}
 use Rattle.state.specs.declared.Verdict.{Verdict}
-use Rattle.state.specs.declared.Verdict.the-variants.{Fit}
 use Rattle.state.proofs.Accepted.{acceptable-memory, fitting-registers, within-budget}
 use Rattle.machine.specs.State.{widths, values}
 use Rattle.day_listing.specs.Listing.{refusedLine}

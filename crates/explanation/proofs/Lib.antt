@@ -1,5 +1,4 @@
-pub mod RowTexts
-pub mod RegisterLines
 pub mod Sizes
 pub mod Answers
 pub mod ByText
+pub mod Day

@@ -1,7 +1,6 @@
 -- How many bytes the last line of a run and the lines of its registers have.
 -- Assumes nothing.
 use mathlib.Core.Path.{_≡_}
-use mathlib.Core.List.{_++_}
 use Prim.Native.Nat.{ℕ, _+_, _≤_}
 use native.Mathlib.Omega.{arith}
 use lib.ListN.{length, length-append}
@@ -13,8 +12,8 @@ use Rattle.page.specs.Text.{decimal}
 use Rattle.page.proofs.Numbers.{octal-length}
 use Rattle.day_listing.specs.Listing.{endLine}
 use Rattle.day_listing.proofs.Sizes.{end-line}
-use Rattle.inquiry.specs.Input.{machineRegisters}
-use Rattle.explanation.specs.Explanation.{registerLines}
+use Rattle.entry.specs.Lines.{machineRegisters}
+use Rattle.run_lines.specs.Registers.{registerLines}
 
 pub end-size : (steps : ℕ) (why : Reason) → length (endLine steps why) ≤ 12 + length (decimal steps)
 end-size steps Halted = rw (end-line steps Halted) (simp length-append (omega arith))

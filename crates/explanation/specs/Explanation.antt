@@ -1,7 +1,7 @@
 -- What `explain` prints: "it runs emulator and evaluator, and prints end, steps, reason, the registers, and the rows that acted in the last cycle". From the
 -- bytes that it reads to the bytes that it writes.
 -- Assumes nothing.
-use mathlib.Core.List.{List, [], _∷_, _++_}
+use mathlib.Core.List.{List, [], _++_}
 use Prim.Native.Nat.{ℕ, zero, suc}
 use lib.ListN.{getD, replicate}
 use Rattle.word.specs.Choice.{choose}
@@ -11,16 +11,16 @@ use Rattle.state.specs.declared.Verdict.the-variants.{Fit, Unfit}
 use Rattle.machine.specs.declared.Machine.{Machine}
 use Rattle.machine.specs.State.{widths, values, start, registers}
 use Rattle.pdp8.specs.Run.{Run, run}
-use Rattle.page.specs.Text.{tab, lineFeed, octal}
 use Rattle.day_listing.specs.Listing.{endLine, refusedLine}
 use Rattle.fields.specs.Fields.{lines}
-use Rattle.names.specs.Names.{Named}
 use Rattle.evaluator.specs.declared.Outcome.{Outcome}
 use Rattle.evaluator.specs.declared.Outcome.the-variants.{Ran, Unread, Refused}
 use Rattle.shipped.specs.Claim.{cyclesOf}
-use Rattle.inquiry.specs.Input.{Inquiry, ready, machineRegisters, digitsOf, asked, firstUnfit}
+use Rattle.entry.specs.Lines.{machineRegisters}
+use Rattle.inquiry.specs.Input.{Inquiry, ready, asked, firstUnfit}
 use Rattle.inquiry.specs.Scan.{Scan, unfitLine}
-use Rattle.explanation.specs.Rows.{rowLines}
+use Rattle.run_lines.specs.Registers.{registerLines}
+use Rattle.run_lines.specs.Rows.{rowLines}
 
 -- the registers that an inquiry gives, as the emulator takes them
 abbrev pub machineOf : List ℕ → Machine
@@ -30,15 +30,6 @@ machineOf rs =
 -- and as the evaluator takes them: "the evaluator's sixteen places", with 0 in those of no machine register
 abbrev pub placesOf : Machine → List ℕ
 placesOf m = values m ++ replicate 10 0
-
--- "register name, TAB, value in octal digits .., LF", as an inquiry's line
-abbrev pub registerLine : Named → ℕ → List ℕ
-registerLine r value = r .name ++ tab ∷ octal (digitsOf (r .number)) value ++ lineFeed ∷ []
-
-abbrev pub registerLines : List Named → List ℕ → List ℕ
-registerLines [] vs = []
-registerLines (r ∷ rs) [] = []
-registerLines (r ∷ rs) (v ∷ vs) = registerLine r v ++ registerLines rs vs
 
 -- what is said of a run of the machine and of the rows that acted in the last cycle of the rows' run
 unfoldable pub told : Run → List ℕ → List ℕ
@@ -76,7 +67,3 @@ abbrev pub listedIn : Outcome → ℕ
 listedIn (Ran why steps rows) = rows
 listedIn (Unread fault line) = 0
 listedIn (Refused why) = 0
-
--- the bytes of a page: the longest explanation has fewer, as the last line of a run, six of registers and 128 rows of at most 55 bytes
-abbrev pub pageBytes : ℕ
-pageBytes = 8192

@@ -1,12 +1,12 @@
 // The explanation of a run: what an inquiry asks for is run by emulator and evaluator, and the text of how it ended is written.
-mod registers;
-mod rows;
-
 use day_listing::lines;
+use entry::REGISTERS;
 use evaluator::Outcome;
 use inquiry::Scanner;
-use inquiry::entries::REGISTERS;
 use machine::Machine;
+use run_lines::PAGE_BYTES;
+use run_lines::registers;
+use run_lines::rows;
 use shipped::Both;
 use state::MEMORY_WORDS;
 use state::ROW_PLACES;
@@ -23,13 +23,11 @@ ghost use Rattle.day_listing.specs.Listing.{endLine};
 ghost use Rattle.emulator.specs.Emulate as emulation;
 ghost use Rattle.evaluator.specs.Evaluate.{report};
 ghost use Rattle.shipped.specs.Claim.{Together};
-ghost use Rattle.inquiry.specs.Input.{machineRegisters};
+ghost use Rattle.entry.specs.Lines.{machineRegisters};
 ghost use Rattle.inquiry.specs.Scan.{held};
-ghost use Rattle.explanation.specs.Rows.{rowLines};
-ghost use Rattle.explanation.specs.Explanation.{machineOf, placesOf, registerLines, answered as Explanation·answered, explanation as Explanation·explanation, scanExplanation, listedIn};
-
-// The bytes of a page that an explanation is written to.
-pub const PAGE_BYTES: usize = 8192;
+ghost use Rattle.run_lines.specs.Registers.{registerLines};
+ghost use Rattle.run_lines.specs.Rows.{rowLines};
+ghost use Rattle.explanation.specs.Explanation.{machineOf, placesOf, answered as Explanation·answered, explanation as Explanation·explanation, scanExplanation, listedIn};
 
 // The registers of an inquiry, as the emulator takes them.
 fn machine_of(rs: [u16; REGISTERS]) -> Machine

@@ -16,11 +16,12 @@ use Rattle.image.specs.Pass.{pass, nextLine, Countable}
 use Rattle.characters.specs.Characters.{run}
 use Rattle.fields.specs.Fields.{lineFeed, Line, push, lines, hasFields}
 use Rattle.characters.proofs.Tests.{by-test}
-use Rattle.inquiry.specs.Input.{Inquiry, ready, entry, lineEntry, isUnfit, entered, asked, firstUnfit}
-use Rattle.inquiry.specs.Scan.{lineBytes, Scan, refusing, scanByte, begun, scanOf, unfitLine}
-use Rattle.inquiry.specs.declared.entries.Entry.{Entry}
+use Rattle.entry.specs.Lines.{entry, isUnfit}
+use Rattle.inquiry.specs.Input.{Inquiry, ready, lineEntry, entered, asked, firstUnfit}
+use Rattle.entry.specs.Lines.{lineBytes}
+use Rattle.inquiry.specs.Scan.{Scan, refusing, scanByte, begun, scanOf, unfitLine}
 use Rattle.inquiry.proofs.Scanning.{ends-unfit, ends-fit, stays, at-feed, within, too-long}
-use Rattle.inquiry.proofs.Short.{long-unfit}
+use Rattle.entry.proofs.Short.{long-unfit}
 
 -- ---- lines that a part of a line stands before
 

@@ -7,8 +7,8 @@ use lib.ListN.{length}
 use lib.Seq.{set-out}
 use Rattle.inquiry.specs.Input.{entered}
 use Rattle.inquiry.specs.Scan.{Scan, entering}
-use Rattle.inquiry.specs.declared.entries.Entry.{Entry}
-use Rattle.inquiry.specs.declared.entries.Entry.the-variants.{Register}
+use Rattle.entry.specs.declared.Entry.{Entry}
+use Rattle.entry.specs.declared.Entry.the-variants.{Register}
 
 pub no-register : (s : Scan) (e : Entry) (place value : ℕ) → e ≡ Register place value → length (s .inquiry .registers) ≤ place → s ≡ entering e s
 unfolding entered

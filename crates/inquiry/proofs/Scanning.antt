@@ -1,20 +1,21 @@
 -- One byte of a line: the ways that the scanner goes.
 -- Assumes nothing.
-use mathlib.Core.Path.{_≡_, refl, sym, ap, _∙_}
+use mathlib.Core.Path.{_≡_, sym, ap, _∙_}
 use mathlib.Core.Bool.{true, false}
-use mathlib.Core.List.{List, [], _∷_, _++_}
-use Prim.Native.Nat.{ℕ, suc, _+_, _≤_, _<_}
+use mathlib.Core.List.{[], _∷_, _++_}
+use Prim.Native.Nat.{ℕ, _+_, _≤_, _<_}
 use native.Mathlib.Numerals.{add-one}
 use native.Mathlib.Omega.{arith}
-use lib.Dec.{eqb, ltb}
-use lib.ListN.{length, take, set, length-take}
+use lib.Dec.{eqb}
+use lib.ListN.{length, take, set}
 use lib.Seq.{take-suc-set, length-take-le, take-all}
 use borrow.Author.Tests.{lt-ltb, le-ltb}
 use Rattle.word.specs.Choice.{on}
 use Rattle.fields.specs.Fields.{lineFeed}
-use Rattle.inquiry.specs.Input.{entry, isUnfit}
-use Rattle.inquiry.specs.Scan.{lineBytes, Scan, held, longer, refusing, entering, atNextLine, ended, scanByte}
-use Rattle.inquiry.specs.declared.entries.Entry.{Entry}
+use Rattle.entry.specs.Lines.{entry, isUnfit}
+use Rattle.entry.specs.Lines.{lineBytes}
+use Rattle.inquiry.specs.Scan.{Scan, longer, refusing, entering, atNextLine, ended, scanByte}
+use Rattle.entry.specs.declared.Entry.{Entry}
 use Rattle.inquiry.specs.declared.Scanner.{Scanner}
 
 -- the LF of a line that says e

@@ -1,12 +1,12 @@
 -- What a text asks for is a state that no check turns down: every value keeps its width, the budget its limit.
 -- Assumes nothing.
-use mathlib.Core.Path.{_≡_, refl, sym, ap, _∙_, subst}
-use mathlib.Core.Bool.{Bool, true, false, _&&_}
+use mathlib.Core.Path.{sym, subst}
+use mathlib.Core.Bool.{_&&_}
 use mathlib.Core.List.{List, [], _∷_}
 use Prim.Native.Nat.{ℕ, zero, suc, _^_, _≤_, _<_}
 use native.Mathlib.Omega.{arith}
 use lib.Dec.{eqb, leb, ltb}
-use lib.ListN.{length, getD, set, length-set}
+use lib.ListN.{length, getD, set}
 use borrow.Author.Tests.{ltb-true, leb-true}
 use Rattle.word.specs.Choice.{on}
 use Rattle.word.specs.Word.{wordBits, fits}
@@ -23,15 +23,16 @@ use Rattle.fields.specs.Fields.{lineFeed, field, hasFields}
 use Rattle.names.specs.Names.{find}
 use Rattle.characters.specs.declared.Class.the-variants.{Octal, Decimal}
 use Rattle.characters.proofs.Cases.{by-case}
-use Rattle.characters.proofs.Tests.{and-left, and-right}
-use Rattle.inquiry.specs.Input.{Inquiry, ready, machineRegisters, digitsOf, isDigits, wordEntry, registerEntry, budgetEntry, said, entry, isUnfit, entered}
-use Rattle.inquiry.specs.Scan.{lineBytes, Scan, longer, refusing, entering, atNextLine, ended, scanByte, begun, Reached}
-use Rattle.inquiry.specs.declared.entries.Entry.{Entry}
-use Rattle.inquiry.specs.declared.entries.Entry.the-variants.{Word, Register, Budget, Unfit}
-use Rattle.inquiry.proofs.Digits.{octal-lt}
+use Rattle.characters.proofs.Tests.{and-right}
+use Rattle.entry.specs.Lines.{machineRegisters, digitsOf, isDigits, wordEntry, registerEntry, budgetEntry, said, entry, isUnfit}
+use Rattle.inquiry.specs.Input.{Inquiry, ready, entered}
+use Rattle.entry.specs.Lines.{lineBytes}
+use Rattle.inquiry.specs.Scan.{Scan, ended, scanByte, begun, Reached}
+use Rattle.entry.specs.declared.Entry.{Entry}
+use Rattle.entry.specs.declared.Entry.the-variants.{Word, Register, Budget, Unfit}
+use Rattle.entry.proofs.Digits.{octal-lt}
 
 pub record Sound (q : Inquiry) : Type 0 where
-  pub places : length (q .registers) ≡ length widths
   pub registers : Fitting widths (q .registers)
   pub budget : q .budget ≤ budgetLimit
   pub memory : Acceptable (q .memory)
@@ -90,15 +91,14 @@ stored-fitting width (y ∷ ys) (suc a) (suc k) x h q = stored-fitting (λ n. wi
 
 enters : (e : Entry) (q : Inquiry) → Narrow e → Sound q → Sound (entered e q)
 unfolding entered
-enters (Word address word) q h d = record { places = d .places; registers = d .registers; budget = d .budget; memory = store-acceptable address h (d .memory) }
+enters (Word address word) q h d = record { registers = d .registers; budget = d .budget; memory = store-acceptable address h (d .memory) }
 enters (Register place value) q h d =
     record {
-      places = length-set (q .registers) place value ∙ d .places;
       registers = record { narrow = λ k. stored-fitting (λ n. getD widths n 0) (q .registers) place k value (d .registers .narrow k) h };
       budget = d .budget;
       memory = d .memory;
     }
-enters (Budget steps) q h d = record { places = d .places; registers = d .registers; budget = h; memory = d .memory }
+enters (Budget steps) q h d = record { registers = d .registers; budget = h; memory = d .memory }
 enters Unfit q h d = d
 
 ends : (s : Scan) → Sound (s .inquiry) → Sound (ended s .inquiry)
@@ -134,7 +134,7 @@ ready-narrow (suc (suc (suc (suc (suc (suc k)))))) = omega arith
 
 ready-sound : Sound ready
 unfolding ready
-ready-sound = record { places = refl; registers = record { narrow = ready-narrow }; budget = omega arith; memory = clear-acceptable }
+ready-sound = record { registers = record { narrow = ready-narrow }; budget = omega arith; memory = clear-acceptable }
 
 pub reached-sound : (s : Scan) → Reached s → Sound (s .inquiry)
 reached-sound s r = subst (λ (t : Scan). Sound (t .inquiry)) (sym (r .is)) (after begun (r .text) ready-sound)

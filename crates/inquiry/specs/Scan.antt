@@ -9,13 +9,10 @@ use lib.Dec.{eqb, ltb}
 use Rattle.word.specs.Choice.{on, choose}
 use Rattle.fields.specs.Fields.{lineFeed}
 use Rattle.image.specs.Pass.{pass, Passed, Left, nextLine}
-use Rattle.inquiry.specs.Input.{Inquiry, ready, entry, isUnfit, entered}
-use Rattle.inquiry.specs.declared.entries.Entry.{Entry}
+use Rattle.entry.specs.Lines.{lineBytes, entry, isUnfit}
+use Rattle.inquiry.specs.Input.{Inquiry, ready, entered}
+use Rattle.entry.specs.declared.Entry.{Entry}
 use Rattle.inquiry.specs.declared.Scanner.{Scanner}
-
--- no fit line has more bytes: the law `long-unfit`
-abbrev pub lineBytes : ℕ
-lineBytes = 24
 
 -- the line's number, the bytes read of it, the first unfit line or 0, and what has been asked
 pub record Scan : Type 0 where

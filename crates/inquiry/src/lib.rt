@@ -1,17 +1,15 @@
 // What a run is asked for, read byte by byte: lines of an image, machine registers and a budget.
-pub mod entries;
-
-use entries::Entry;
-use entries::REGISTERS;
+use entry::Entry;
+use entry::LINE_BYTES;
+use entry::REGISTERS;
 use fields::LINE_FEED;
 use state::MEMORY_WORDS;
 ghost use mathlib.Core.Path.{_≡_};
 ghost use mathlib.Core.List.{List, []};
 ghost use Prim.Native.Nat.{ℕ};
 ghost use lib.ListN.{set};
+ghost use Rattle.entry.specs.Lines.{isUnfit};
 ghost use Rattle.inquiry.specs.Scan.{held, refusing, entering, atNextLine, ended, scanByte, scanOf, unfitLine, Scanned};
-
-pub const LINE_BYTES: usize = 24;
 
 // The place in the input: the line's number from 1 and the bytes read of it; the machine registers and the budget so far; and the
 // first line that was refused, or 0.
@@ -22,6 +20,18 @@ pub struct Scanner {
     pub registers: [u16; REGISTERS],
     pub budget: u64,
     pub refused: u64,
+}
+
+// Whether a line is unfit, by what it says.
+fn is_unfit(e: Entry) -> bool
+    ensures { λ r. ⌜ r ≡ isUnfit e ⌝ }
+{
+    match e {
+        Entry::Word(_, _) => false,
+        Entry::Register(_, _) => false,
+        Entry::Budget(_) => false,
+        Entry::Unfit => true,
+    }
 }
 
 // The line is unfit.
@@ -79,8 +89,8 @@ fn end_line(memory: &mut [u16; MEMORY_WORDS], s: Scanner) -> Scanner
     ensures { λ r. ⌜ held r (now (memory .exit)) ≡ ended (held s (now (memory .entry))) ⌝ }
 {
     let buffer = s.bytes;
-    let e = entries::entry_of(characters::part(&buffer, 0, s.size));
-    if entries::is_unfit(e) {
+    let e = entry::entry_of(characters::part(&buffer, 0, s.size));
+    if is_unfit(e) {
         return refused(s);
     }
     next_line(entered(memory, s, e))

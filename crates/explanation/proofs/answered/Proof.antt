@@ -1,9 +1,9 @@
 -- `explanation::answered`: the emulator's answer tells whether there was a run.
 use borrow.Author.Needs.{needs}
-use mathlib.Core.Path.{_≡_, refl}
+use mathlib.Core.Path.{refl}
 use native.Mathlib.Omega.{arith}
 use lib.Dec.{lit≤}
-use lib.ListN.{length, replicate}
+use lib.ListN.{replicate}
 use Rattle.explanation.proofs.Answers.{refused-by, ran-by}
 use Rattle.explanation.proofs.answered.Statement.{statement}
 use Rattle.explanation.proofs.answered.Tie as tie

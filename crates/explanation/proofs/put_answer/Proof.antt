@@ -5,7 +5,7 @@ use Rattle.word.specs.Choice.{choose}
 use Rattle.state.specs.declared.Reason.the-variants.{Halted, Spent}
 use Rattle.page.proofs.Numbers.{decimal-length}
 use Rattle.page.proofs.Writing.{written-then, written-page}
-use Rattle.explanation.specs.Explanation.{pageBytes}
+use Rattle.run_lines.specs.Registers.{pageBytes}
 use Rattle.explanation.proofs.Sizes.{end-size, registers-size}
 use Rattle.explanation.proofs.put_answer.Statement.{statement}
 use Rattle.explanation.proofs.put_answer.Tie as tie

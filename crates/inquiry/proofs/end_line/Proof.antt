@@ -1,8 +1,7 @@
 -- `inquiry::end_line`: what the bytes of the line say decides.
 use borrow.Author.Needs.{needs}
 use mathlib.Core.Path.{sym, ap, _∙_}
-use lib.ListN.{take}
-use Rattle.inquiry.specs.Input.{entry}
+use Rattle.entry.specs.Lines.{entry}
 use Rattle.inquiry.specs.Scan.{held, atNextLine}
 use Rattle.inquiry.proofs.Scanning.{ends-unfit, ends-fit}
 use Rattle.inquiry.proofs.end_line.Statement.{statement}

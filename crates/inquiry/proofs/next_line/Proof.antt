@@ -2,8 +2,7 @@
 use borrow.Author.Needs.{needs}
 use mathlib.Core.Path.{ap}
 use mathlib.Core.List.{[]}
-use Rattle.inquiry.specs.Scan.{held, atNextLine}
-use Rattle.inquiry.specs.Scan.{Scan}
+use Rattle.inquiry.specs.Scan.{held}
 use Rattle.inquiry.proofs.next_line.Statement.{statement}
 use Rattle.inquiry.proofs.next_line.Tie as tie
 

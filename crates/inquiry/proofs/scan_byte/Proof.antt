@@ -5,7 +5,8 @@ use mathlib.Core.Bool.{not}
 use native.Mathlib.Omega.{arith}
 use lib.ListN.{length}
 use borrow.Author.Tests.{eq-eqb, ne-eqb}
-use Rattle.inquiry.specs.Scan.{lineBytes, held}
+use Rattle.entry.specs.Lines.{lineBytes}
+use Rattle.inquiry.specs.Scan.{held}
 use Rattle.inquiry.proofs.Scanning.{stays, at-feed, within, too-long, part-size, part-full, part-longer}
 use Rattle.inquiry.proofs.scan_byte.Statement.{statement}
 use Rattle.inquiry.proofs.scan_byte.Tie as tie

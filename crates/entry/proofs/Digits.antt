@@ -1,0 +1,41 @@
+-- A field of digits: its length, and how large a number it stands for.
+-- Assumes nothing.
+use mathlib.Core.Path.{_≡_}
+use mathlib.Core.Bool.{true}
+use mathlib.Core.List.{List}
+use Prim.Native.Nat.{ℕ, zero, suc, _*_, _^_, _≤_, _<_}
+use native.Mathlib.Nat.{zero-add}
+use native.Mathlib.Omega.{arith}
+use lib.Dec.{eqb}
+use lib.ListN.{length, getD}
+use borrow.Author.Tests.{eqb-true}
+use Rattle.machine.specs.State.{widths}
+use Rattle.characters.specs.Characters.{runEnd}
+use Rattle.constants.specs.Constants.{numberAt}
+use Rattle.characters.specs.declared.Class.{Class}
+use Rattle.characters.specs.declared.Class.the-variants.{Octal}
+use Rattle.constants.proofs.Digits.{value-lt, octal-small}
+use Rattle.characters.proofs.Tests.{and-left, and-right}
+use Rattle.entry.specs.Lines.{isDigits}
+
+module _ (k : Class) (n : ℕ) (field : List ℕ) (t : isDigits k n field ≡ true) where
+  pub digits-size : length field ≡ n
+  digits-size = eqb-true _ _ (and-left (eqb (length field) n) (eqb (runEnd k field 0) n) t)
+
+  pub digits-run : runEnd k field 0 ≡ n
+  digits-run = eqb-true _ _ (and-right (eqb (length field) n) (eqb (runEnd k field 0) n) t)
+
+-- three bits for each octal digit
+pub octal-lt : (n : ℕ) (field : List ℕ) → isDigits Octal n field ≡ true → numberAt 8 field 0 n 0 < 2 ^ (3 * n)
+octal-lt n field t =
+    rw (zero-add (3 * n)) at (value-lt Octal 3 octal-small field n 0 0 0 (omega (arith, digits-run Octal n field t)) (omega arith))
+
+-- no register is wider than LAC
+pub width-le : (k : ℕ) → getD widths k 0 ≤ 13
+width-le zero = omega arith
+width-le (suc zero) = omega arith
+width-le (suc (suc zero)) = omega arith
+width-le (suc (suc (suc zero))) = omega arith
+width-le (suc (suc (suc (suc zero)))) = omega arith
+width-le (suc (suc (suc (suc (suc zero))))) = omega arith
+width-le (suc (suc (suc (suc (suc (suc k)))))) = omega arith

@@ -1,0 +1,37 @@
+-- `entry::entry_of`: a line has two fields.
+use borrow.Author.Needs.{needs}
+use mathlib.Core.Path.{sym, _∙_}
+use Rattle.entry.specs.Lines.{entry}
+use Rattle.entry.proofs.entry_of.Statement.{statement}
+use Rattle.entry.proofs.entry_of.Tie as tie
+
+has-fields-requires : tie.Need-has-fields-requires
+has-fields-requires c κs = search needs
+
+field-of-requires : tie.Need-field-of-requires
+field-of-requires c κs = search needs
+
+field-of-requires-2 : tie.Need-field-of-requires-2
+field-of-requires-2 c κs = search needs
+
+two-fields-requires : tie.Need-two-fields-requires
+two-fields-requires c κs = search needs
+
+returns : tie.Need-returns
+unfolding entry
+returns c = rw (sym (c .before .before .before .before .has-fields .ensures) ∙ c .before .before .before .if1 .taken, ← c .before .before .field-of .ensures, ← c .before .field-of2 .ensures, entry) (c .two-fields .ensures)
+
+returns-2 : tie.Need-returns-2
+unfolding entry
+returns-2 c = rw (sym (c .before .has-fields .ensures) ∙ c .if1 .left, entry)
+
+pub entry-of-spec : {M : Type 1} → statement M
+entry-of-spec =
+    tie.close
+    (tie.spec
+    has-fields-requires
+    field-of-requires
+    field-of-requires-2
+    two-fields-requires
+    returns
+    returns-2)

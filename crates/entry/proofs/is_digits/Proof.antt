@@ -1,0 +1,13 @@
+-- `entry::is_digits`: the run of digits is the whole field.
+use borrow.Author.Needs.{needs}
+use Rattle.entry.proofs.is_digits.Statement.{statement}
+use Rattle.entry.proofs.is_digits.Tie as tie
+
+run-end-requires : tie.Need-run-end-requires
+run-end-requires c κs = search needs
+
+returns : tie.Need-returns
+returns c = cc
+
+pub is-digits-spec : {M : Type 1} → statement M
+is-digits-spec = tie.close (tie.spec run-end-requires returns)

@@ -1,0 +1,128 @@
+// What a line says: a word of the memory, a machine register, the budget, or nothing that is known.
+use characters::Class;
+use state::BUDGET_LIMIT;
+ghost use mathlib.Core.Path.{_≡_};
+ghost use Prim.Native.Nat.{_<_};
+ghost use lib.ListN.{getD};
+ghost use Rattle.machine.specs.State.{widths};
+ghost use Rattle.names.specs.Names.{find};
+ghost use Rattle.entry.specs.Lines.{machineRegisters, isDigits, wordEntry, registerEntry, budgetEntry, said, entry};
+
+pub const REGISTERS: usize = 6;
+
+// No fit line has more bytes.
+pub const LINE_BYTES: usize = 24;
+
+const WIDTHS: [u64; REGISTERS] = [13, 12, 1, 1, 1, 12];
+
+const BUDGET_DIGITS: usize = 7;
+
+// What a line says.
+pub enum Entry {
+    // address, word
+    Word(usize, u16),
+    // the register's place in their order, its value
+    Register(usize, u16),
+    Budget(u64),
+    Unfit,
+}
+
+// Whether a field is n digits of a class.
+fn is_digits(class: Class, n: usize, field: &[u8]) -> bool
+    ensures { λ r. ⌜ r ≡ isDigits class n (now (field .entry)) ⌝ }
+{
+    (field.len() == n) & (characters::run_end(field, 0, class) == n)
+}
+
+// A line with a word of the memory.
+fn word_entry(address: &[u8], word: &[u8]) -> Entry
+    ensures { λ r. ⌜ r ≡ wordEntry (now (address .entry)) (now (word .entry)) ⌝ }
+{
+    if is_digits(Class::Octal, 4, address) & is_digits(Class::Octal, 4, word) {
+        let place = constants::digits_value(address, 0, 4, 8);
+        let value = constants::digits_value(word, 0, 4, 8);
+        Entry::Word(place as usize, value as u16)
+    } else {
+        Entry::Unfit
+    }
+}
+
+// A line with a machine register.
+fn register_entry(place: usize, value: &[u8]) -> Entry
+    requires { ⌜ place < 6 ⌝ }
+    ensures { λ r. ⌜ r ≡ registerEntry place (getD widths place 0) (now (value .entry)) ⌝ }
+{
+    let width = WIDTHS[place];
+    let n = ((width + 2) / 3) as usize;
+    if is_digits(Class::Octal, n, value) {
+        let v = constants::digits_value(value, 0, n, 8);
+        if word::is_narrow(width, v) {
+            return Entry::Register(place, v as u16);
+        }
+    }
+    Entry::Unfit
+}
+
+// A line with the budget.
+fn budget_entry(value: &[u8]) -> Entry
+    ensures { λ r. ⌜ r ≡ budgetEntry (now (value .entry)) ⌝ }
+{
+    let n = value.len();
+    if (0 < n) & (n <= BUDGET_DIGITS) & is_digits(Class::Decimal, n, value) {
+        let steps = constants::digits_value(value, 0, n, 10);
+        if steps <= BUDGET_LIMIT {
+            return Entry::Budget(steps);
+        }
+    }
+    Entry::Unfit
+}
+
+// The place of a machine register in their order, by its name; their number where it is none.
+fn register_place(name: &[u8]) -> usize
+    ensures { λ r. ⌜ r ≡ find (now (name .entry)) machineRegisters ⌝ }
+{
+    if characters::is_same(b"LAC", name) {
+        return 0;
+    }
+    if characters::is_same(b"PC", name) {
+        return 1;
+    }
+    if characters::is_same(b"RUN", name) {
+        return 2;
+    }
+    if characters::is_same(b"INTERRUPT.ENABLE", name) {
+        return 3;
+    }
+    if characters::is_same(b"INTERRUPT.REQUEST", name) {
+        return 4;
+    }
+    if characters::is_same(b"SWITCHES", name) {
+        return 5;
+    }
+    REGISTERS
+}
+
+// A line of two fields, by its first.
+fn two_fields(name: &[u8], value: &[u8]) -> Entry
+    ensures { λ r. ⌜ r ≡ said (now (name .entry)) (now (value .entry)) ⌝ }
+{
+    if characters::is_same(name, b"budget") {
+        return budget_entry(value);
+    }
+    let place = register_place(name);
+    if place < REGISTERS {
+        return register_entry(place, value);
+    }
+    word_entry(name, value)
+}
+
+// What a line says, its LF aside.
+pub fn entry_of(line: &[u8]) -> Entry
+    ensures { λ r. ⌜ r ≡ entry (now (line .entry)) ⌝ }
+{
+    if fields::has_fields(line, 2) {
+        two_fields(fields::field_of(line, 0), fields::field_of(line, 1))
+    } else {
+        Entry::Unfit
+    }
+}

@@ -1,0 +1,41 @@
+-- The explanation of (L); and that an image alone is run as for its day listing, so that its explanation begins with the listing's last line.
+-- Assumes nothing.
+use mathlib.Core.Path.{_≡_, refl}
+use mathlib.Core.List.{List}
+use Prim.Native.Nat.{ℕ}
+use Rattle.machine.specs.Interrupt.{interruptTest}
+use Rattle.machine.specs.State.{start}
+use Rattle.reference.specs.Address.{firstAddress, indexed, effective, afterIndexing}
+use Rattle.reference.specs.Reference.{operation, reference}
+use Rattle.operate.specs.Operate.{changed, rotated, skips, group1, group2, operate}
+use Rattle.pdp8.specs.Step.{execute, step}
+use Rattle.pdp8.specs.Run as steps
+use Rattle.page.specs.Text.{ascii, octal, decimalIn, decimal}
+use Rattle.day_listing.specs.Listing as listing
+use Rattle.day_listing.specs.Listing.{endLine}
+use Rattle.image.specs.Input.{clear}
+use Rattle.characters.specs.Characters as bytes
+use Rattle.characters.specs.Characters.{runEnd, same}
+use Rattle.constants.specs.Constants.{numberAt}
+use Rattle.fields.specs.Fields.{lines, field, hasFields}
+use Rattle.names.specs.Names.{find}
+use Rattle.evaluator.specs.Cycle.{cycleFrom}
+use Rattle.evaluator.specs.Run as cycles
+use Rattle.shipped.specs.Text.{shippedText}
+use Rattle.entry.specs.Lines.{wordEntry, registerEntry, budgetEntry, said, entry}
+use Rattle.inquiry.specs.Input.{ready, entered, asked, firstUnfit}
+use Rattle.run_lines.specs.Rows.{rowTexts, rowLine, rowLines}
+use Rattle.explanation.specs.Explanation.{machineOf, told, explained, explanation}
+
+pub starts-as-listed : (memory : List ℕ) → start (machineOf (ready .registers)) memory ≡ listing.ready memory
+unfolding ready
+starts-as-listed memory = refl
+
+pub budget-as-listed : ready .budget ≡ listing.budget
+unfolding ready
+budget-as-listed = refl
+
+pub day : explanation (ascii "0200\t7300\n0201\t1204\n0202\t7001\n0203\t7402\n0204\t7777\n")
+    ≡ ascii "end\t4\thalted\nLAC\t10000\nPC\t0204\nRUN\t0\nINTERRUPT.ENABLE\t0\nINTERRUPT.REQUEST\t0\nSWITCHES\t0000\n1\tdo\t1\ti\tM[PC]\n2\tdo\t1\tlast.pc\tPC\n3\tdo\t1\tPC\tPC + 1\n5\tgo\ti<0:2> Eql #7\topr\n35\tgo\ti<3>\tgroup.2\n49\tdo\t1\tskip\t0\n54\tgo\t1\tdecided\n62\tdo\ti<10>\tRUN\t0\n63\tgo\t1\tinterrupt\n65\tgo\tNot INTERRUPT.ENABLE\trestart\n"
+unfolding interruptTest firstAddress indexed effective afterIndexing operation reference changed rotated skips group1 group2 operate execute step steps.runFrom steps.run octal decimalIn decimal endLine clear bytes.run runEnd same numberAt lines field hasFields find cycleFrom cycles.runFrom cycles.run shippedText wordEntry registerEntry budgetEntry said entry ready entered asked firstUnfit rowTexts rowLine rowLines told explained explanation
+day = refl

@@ -1,0 +1,79 @@
+-- The rows of a text, passed line by line; and how long the shipped ones are.
+-- Assumes nothing.
+use mathlib.Core.Path.{_≡_, refl, sym, ap, _∙_}
+use mathlib.Core.Bool.{Bool, true, false, _&&_, false≢true}
+use mathlib.Core.List.{List, [], _∷_, _++_, append-nil, append-assoc}
+use Prim.Native.Nat.{ℕ, zero, suc, _+_, _-_, _≤_, _<_}
+use native.Mathlib.Numerals.{sub-one, add-one}
+use native.Mathlib.Omega.{arith}
+use lib.Dec.{eqb, leb}
+use lib.ListN.{length, getD, take, length-append}
+use lib.Seq.{take-suc}
+use borrow.Author.Tests.{leb-true}
+use Rattle.word.specs.Choice.{pick}
+use Rattle.page.proofs.Numbers.{decimal-length}
+use Rattle.characters.specs.Characters.{run, same}
+use Rattle.fields.specs.Fields.{lineFeed, before, after, Line, lines, firstLine, field}
+use Rattle.fields.proofs.Lines.{first-line}
+use Rattle.characters.proofs.Tests.{and-left, and-right}
+use Rattle.shipped.specs.Text.{shippedText}
+use Rattle.run_lines.specs.Rows.{isRow, rowTexts, rowOf, rowLine, rowLines}
+
+-- ---- one line
+
+row-first : (l : Line) (ls : List Line) → isRow (l .bytes) ≡ true → rowTexts (l ∷ ls) ≡ l .bytes ∷ rowTexts ls
+unfolding rowTexts
+row-first l ls t = rw (t, rowTexts)
+
+no-row : (l : Line) (ls : List Line) → isRow (l .bytes) ≡ false → rowTexts (l ∷ ls) ≡ rowTexts ls
+unfolding rowTexts
+no-row l ls t = rw (t, rowTexts)
+
+module _ (rest : List ℕ) (some : 0 < length rest) where
+  pub row-found : isRow (before lineFeed rest) ≡ true → getD (rowTexts (lines rest)) 0 [] ≡ before lineFeed rest
+  row-found t = rw (first-line rest some, row-first (firstLine rest) (lines (after lineFeed rest)) t)
+
+  pub row-passed : (t : Bool) (left : ℕ) → isRow (before lineFeed rest) ≡ t → t && eqb left 0 ≡ false
+      → getD (rowTexts (lines rest)) left [] ≡ getD (rowTexts (lines (after lineFeed rest))) (pick t (left - 1) left) []
+  row-passed true zero e f = absurd (false≢true (sym f))
+  row-passed true (suc left) e f = rw (first-line rest some, row-first (firstLine rest) (lines (after lineFeed rest)) e, sub-one (suc left))
+  row-passed false left e f = rw (first-line rest some, no-row (firstLine rest) (lines (after lineFeed rest)) e)
+
+-- with all lines passed
+pub row-none : (rest : List ℕ) (left : ℕ) → length rest ≤ 0 → rest ≡ getD (rowTexts (lines rest)) left []
+unfolding rowTexts lines
+row-none [] left h = refl
+row-none (b ∷ rest) left h = absurd (omega arith)
+
+-- ---- the shipped rows
+
+abbrev allWithin : ℕ → List (List ℕ) → Bool
+allWithin n [] = true
+allWithin n (l ∷ ls) = leb (length l) n && allWithin n ls
+
+each-within : (n : ℕ) (ls : List (List ℕ)) → allWithin n ls ≡ true → (k : ℕ) → length (getD ls k []) ≤ n
+each-within n [] t k = omega arith
+each-within n (l ∷ ls) t zero = leb-true (length l) n (and-left (leb (length l) n) (allWithin n ls) t)
+each-within n (l ∷ ls) t (suc k) = each-within n ls (and-right (leb (length l) n) (allWithin n ls) t) k
+
+shipped-within : allWithin 50 (rowTexts (lines shippedText)) ≡ true
+unfolding run same lines field rowTexts shippedText
+shipped-within = refl
+
+pub row-size : (k : ℕ) → length (rowOf k shippedText) ≤ 50
+row-size k = each-within 50 (rowTexts (lines shippedText)) shipped-within (k - 1)
+
+pub row-line-size : (k : ℕ) → k < 256 → length (rowLine k) ≤ 55
+unfolding rowLine
+row-line-size k h = let short = decimal-length 2 k (omega arith) in let text = row-size k in simp length-append (omega arith)
+
+-- ---- lines of rows
+
+-- one row more
+rows-snoc : (ks : List ℕ) (k : ℕ) → rowLines (ks ++ k ∷ []) ≡ rowLines ks ++ rowLine k
+unfolding rowLines
+rows-snoc [] k = append-nil (rowLine k)
+rows-snoc (x ∷ ks) k = ap (λ (l : List ℕ). rowLine x ++ l) (rows-snoc ks k) ∙ sym (append-assoc (rowLine x) (rowLines ks) (rowLine k))
+
+pub rows-more : (rows : List ℕ) (i : ℕ) → i < length rows → rowLines (take (i + 1) rows) ≡ rowLines (take i rows) ++ rowLine (getD rows i 0)
+rows-more rows i h = ap (λ (n : ℕ). rowLines (take n rows)) (add-one i) ∙ ap rowLines (take-suc rows i 0 h) ∙ rows-snoc (take i rows) (getD rows i 0)

@@ -1,0 +1,38 @@
+// The registers after a run, each on a line that an inquiry may have.
+use crate::PAGE_BYTES;
+use fields::LINE_FEED;
+use machine::Machine;
+use page::put_byte;
+use page::put_field;
+use page::put_text;
+ghost use mathlib.Core.List.{[], _∷_, _++_};
+ghost use Prim.Native.Nat.{_+_, _≤_};
+ghost use lib.ListN.{length};
+ghost use Rattle.machine.specs.State.{values};
+ghost use Rattle.page.specs.Text.{tab, lineFeed, octal};
+ghost use Rattle.page.specs.Written.{Written};
+ghost use Rattle.entry.specs.Lines.{machineRegisters};
+ghost use Rattle.run_lines.specs.Registers.{registerLines, pageBytes};
+
+// A register's line: its name, TAB, its value in n octal digits.
+fn put_register(page: &mut [u8; PAGE_BYTES], at: usize, name: &[u8], n: u64, value: u16) -> usize
+    requires { ⌜ at + length (now name) + n + 2 ≤ pageBytes ⌝ }
+    ensures { λ r. ⌜ Written (now (name .entry) ++ tab ∷ octal n value ++ lineFeed ∷ []) (now (page .entry)) at (now (page .exit)) r ⌝ }
+{
+    let tab = put_text(page, at, name);
+    let end = put_field(page, tab, n, value as u64);
+    put_byte(page, end, LINE_FEED)
+}
+
+// The six registers.
+pub fn put_registers(page: &mut [u8; PAGE_BYTES], at: usize, m: Machine) -> usize
+    requires { ⌜ at + 77 ≤ pageBytes ⌝ }
+    ensures { λ r. ⌜ Written (registerLines machineRegisters (values m)) (now (page .entry)) at (now (page .exit)) r ⌝ }
+{
+    let pc = put_register(page, at, b"LAC", 5, m.lac);
+    let run = put_register(page, pc, b"PC", 4, m.pc);
+    let enable = put_register(page, run, b"RUN", 1, m.run);
+    let request = put_register(page, enable, b"INTERRUPT.ENABLE", 1, m.enable);
+    let switches = put_register(page, request, b"INTERRUPT.REQUEST", 1, m.request);
+    put_register(page, switches, b"SWITCHES", 4, m.switches)
+}

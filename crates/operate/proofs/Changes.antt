@@ -1,12 +1,12 @@
 -- LAC stays within its 13 bits at each change that op 7 makes of it; most of its instructions ask for few of them.
 -- Assumes nothing.
 use mathlib.Core.Path.{_≡_, ap, _∙_}
-use Prim.Native.Nat.{ℕ, _+_, _/_, _%_, _^_, _<_}
+use Prim.Native.Nat.{ℕ, _+_, _^_, _<_}
 use native.Mathlib.Omega.{arith}
 use lib.Bits.{or-lt}
 use lib.Dec.{lit<}
 use Rattle.word.specs.Choice.{choose}
-use Rattle.word.specs.Word.{wordBits}
+use Rattle.word.specs.Word.{wordBits, bits}
 use Rattle.word.proofs.Choice.{choose-either}
 use Rattle.word.proofs.Complement.{complement-lt}
 use Rattle.word.proofs.Rotation.{rotatedLeft-lt, rotatedRight-lt}
@@ -38,7 +38,7 @@ pub increased-lt : (i : ℕ) {lac : ℕ} → Narrow lac → Narrow (increased i 
 increased-lt i {lac} h = choose-either Narrow (flag 11 i) (sum-narrow (lac + 1)) h
 
 -- where bits 4 to 7 are all 0, bit 11 alone is asked
-pub only-increased : (i lac : ℕ) → i / 2 ^ 4 % 2 ^ 4 ≡ 0 → changed i lac ≡ increased i lac
+pub only-increased : (i lac : ℕ) → bits wordBits 4 7 i ≡ 0 → changed i lac ≡ increased i lac
 unfolding changed
 only-increased i lac none =
     ap (increased i) (unchosen (flag 7 i) _ _ (omega (arith, none))

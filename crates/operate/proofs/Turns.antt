@@ -6,7 +6,7 @@ use Prim.Native.Nat.{ℕ, _/_, _%_, _^_, _<_}
 use native.Mathlib.Omega.{arith}
 use lib.Dec.{lit<}
 use Rattle.word.specs.Choice.{on, pick, choose}
-use Rattle.word.specs.Word.{rotatedLeft, rotatedRight}
+use Rattle.word.specs.Word.{wordBits, bits, rotatedLeft, rotatedRight}
 use Rattle.word.proofs.Rotation.{left-then-right}
 use Rattle.machine.specs.State.{lacBits}
 use Rattle.machine.specs.Instruction.{flag}
@@ -18,7 +18,7 @@ turned right left n lac =
     pick right (rotatedRight lacBits n (pick left (rotatedLeft lacBits n lac) lac)) (pick left (rotatedLeft lacBits n lac) lac)
 
 -- bits 8, 9 and 10 of the number k that they make
-pub rotated-by : (i k lac : ℕ) → i / 2 % 8 ≡ k → rotated i lac ≡ turned (on (k / 4)) (on (k / 2 % 2)) (choose (k % 2) 2 1) lac
+pub rotated-by : (i k lac : ℕ) → bits wordBits 8 10 i ≡ k → rotated i lac ≡ turned (on (k / 4)) (on (k / 2 % 2)) (choose (k % 2) 2 1) lac
 unfolding rotated
 rotated-by i k lac made =
     let eight : flag 8 i ≡ k / 4 = omega (arith, made) in

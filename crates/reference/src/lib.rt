@@ -18,8 +18,7 @@ ghost use Rattle.machine.specs.Instruction.{op};
 ghost use Rattle.machine.specs.Interrupt.{interruptTest};
 ghost use Rattle.reference.specs.Reference.{reference};
 
-// The instruction i of ops 0 to 5 that was fetched from `last`: its address is worked out once, in each op's own arm. No other op comes
-// here.
+// The instruction i of ops 0 to 5 that was fetched from `last`: its address is worked out once, in the op's own arm.
 pub fn refer(memory: &mut [u16], p: Processor, i: u64, last: u64) -> Processor
     requires { ⌜ Good (at p (now memory)) ⌝ ∗ ⌜ i < 2 ^ wordBits ⌝ ∗ ⌜ last < 2 ^ wordBits ⌝ ∗ ⌜ op i < 6 ⌝ }
     ensures { λ r. ⌜ at r (now (memory .exit)) ≡ interruptTest (reference i last (at p (now (memory .entry)))) ⌝ }
@@ -49,6 +48,7 @@ pub fn refer(memory: &mut [u16], p: Processor, i: u64, last: u64) -> Processor
             let e = effective_address(memory, i, last);
             jump_to(memory, p, e)
         }
+        // Ops 6 and 7 do not come here.
         _ => p,
     }
 }

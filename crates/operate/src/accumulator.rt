@@ -69,11 +69,14 @@ fn increase(i: u64, lac: u64) -> u64
     }
 }
 
-// The five changes before a rotation.
+// The five changes before a rotation. Most instructions ask for none of the first four.
 pub fn change(i: u64, lac: u64) -> u64
     requires { ⌜ lac < 2 ^ lacBits ⌝ }
     ensures { λ r. ⌜ r ≡ changed i lac ⌝ }
 {
+    if i / CML % 16 == 0 {
+        return increase(i, lac);
+    }
     let cleared = clear_link(i, clear(i, lac));
     increase(i, complement_link(i, complement(i, cleared)))
 }

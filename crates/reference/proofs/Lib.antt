@@ -1,3 +1,4 @@
 pub mod Addresses
 pub mod Keeps
+pub mod Refers
 pub mod Skips

@@ -7,11 +7,11 @@ ghost use mathlib.Core.Path.{_≡_};
 ghost use Prim.Native.Nat.{_^_, _<_};
 ghost use Rattle.word.specs.Word.{wordBits};
 ghost use Rattle.machine.specs.State.{at, Good};
-ghost use Rattle.reference.specs.Reference.{andTo, addTo, incrementAndSkip, deposit, callAt, jumpTo, operation};
+ghost use Rattle.reference.specs.Reference.{andTo, addTo, incrementAndSkip, deposit, callAt, jumpTo};
 ghost use Rattle.machine.specs.Interrupt.{interruptTest};
 
 // 0: AC = AC And M[e].
-fn and_to(memory: &mut [u16], p: Processor, e: u64) -> Processor
+pub fn and_to(memory: &mut [u16], p: Processor, e: u64) -> Processor
     requires { ⌜ Good (at p (now memory)) ⌝ ∗ ⌜ e < 2 ^ wordBits ⌝ }
     ensures { λ r. ⌜ at r (now (memory .exit)) ≡ interruptTest (andTo e (at p (now (memory .entry)))) ⌝ }
 {
@@ -22,7 +22,7 @@ fn and_to(memory: &mut [u16], p: Processor, e: u64) -> Processor
 }
 
 // 1: LAC = LAC + M[e].
-fn add_to(memory: &mut [u16], p: Processor, e: u64) -> Processor
+pub fn add_to(memory: &mut [u16], p: Processor, e: u64) -> Processor
     requires { ⌜ Good (at p (now memory)) ⌝ ∗ ⌜ e < 2 ^ wordBits ⌝ }
     ensures { λ r. ⌜ at r (now (memory .exit)) ≡ interruptTest (addTo e (at p (now (memory .entry)))) ⌝ }
 {
@@ -33,7 +33,7 @@ fn add_to(memory: &mut [u16], p: Processor, e: u64) -> Processor
 }
 
 // 2: increase M[e]; if it is now 0, PC + 1.
-fn increment_and_skip(memory: &mut [u16], p: Processor, e: u64) -> Processor
+pub fn increment_and_skip(memory: &mut [u16], p: Processor, e: u64) -> Processor
     requires { ⌜ Good (at p (now memory)) ⌝ ∗ ⌜ e < 2 ^ wordBits ⌝ }
     ensures { λ r. ⌜ at r (now (memory .exit)) ≡ interruptTest (incrementAndSkip e (at p (now (memory .entry)))) ⌝ }
 {
@@ -48,7 +48,7 @@ fn increment_and_skip(memory: &mut [u16], p: Processor, e: u64) -> Processor
 }
 
 // 3: M[e] = AC, then AC = 0.
-fn deposit_at(memory: &mut [u16], p: Processor, e: u64) -> Processor
+pub fn deposit_at(memory: &mut [u16], p: Processor, e: u64) -> Processor
     requires { ⌜ Good (at p (now memory)) ⌝ ∗ ⌜ e < 2 ^ wordBits ⌝ }
     ensures { λ r. ⌜ at r (now (memory .exit)) ≡ interruptTest (deposit e (at p (now (memory .entry)))) ⌝ }
 {
@@ -59,7 +59,7 @@ fn deposit_at(memory: &mut [u16], p: Processor, e: u64) -> Processor
 }
 
 // 4: M[e] = PC, then PC = e + 1.
-fn call_at(memory: &mut [u16], p: Processor, e: u64) -> Processor
+pub fn call_at(memory: &mut [u16], p: Processor, e: u64) -> Processor
     requires { ⌜ Good (at p (now memory)) ⌝ ∗ ⌜ e < 2 ^ wordBits ⌝ }
     ensures { λ r. ⌜ at r (now (memory .exit)) ≡ interruptTest (callAt e (at p (now (memory .entry)))) ⌝ }
 {
@@ -70,26 +70,11 @@ fn call_at(memory: &mut [u16], p: Processor, e: u64) -> Processor
 }
 
 // 5: PC = e.
-fn jump_to(memory: &mut [u16], p: Processor, e: u64) -> Processor
+pub fn jump_to(memory: &mut [u16], p: Processor, e: u64) -> Processor
     requires { ⌜ Good (at p (now memory)) ⌝ ∗ ⌜ e < 2 ^ wordBits ⌝ }
     ensures { λ r. ⌜ at r (now (memory .exit)) ≡ interruptTest (jumpTo e (at p (now (memory .entry)))) ⌝ }
 {
     let mut q = p;
     q.pc = e;
     interrupt_test(memory, q)
-}
-
-// The op's work on its address.
-pub fn operated(memory: &mut [u16], p: Processor, op: u64, e: u64) -> Processor
-    requires { ⌜ Good (at p (now memory)) ⌝ ∗ ⌜ e < 2 ^ wordBits ⌝ }
-    ensures { λ r. ⌜ at r (now (memory .exit)) ≡ interruptTest (operation op e (at p (now (memory .entry)))) ⌝ }
-{
-    match op {
-        0 => and_to(memory, p, e),
-        1 => add_to(memory, p, e),
-        2 => increment_and_skip(memory, p, e),
-        3 => deposit_at(memory, p, e),
-        4 => call_at(memory, p, e),
-        _ => jump_to(memory, p, e),
-    }
 }

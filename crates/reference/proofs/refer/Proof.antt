@@ -1,15 +1,8 @@
--- `reference::refer`: the address is worked out once, and the operation has it and the memory that it left.
-use mathlib.Core.Path.{ap, _∙_}
-use Prim.Native.Nat.{ℕ}
+-- `reference::refer`: the address is worked out once, and the op's function has it and the memory that it left.
 use denote.Ref.{now}
-use Rattle.machine.specs.State.{at, withMemory}
-use Rattle.machine.specs.Interrupt.{interruptTest}
-use mathlib.Core.List.{List}
-use Rattle.machine.specs.Instruction.{op}
-use Rattle.reference.specs.Address.{afterIndexing}
-use Rattle.reference.specs.Reference.{operation, reference}
-use Rattle.reference.proofs.Addresses.{effective-lt}
-use Rattle.reference.proofs.Keeps.{indexing-good}
+use native.Mathlib.Omega.{arith}
+use Rattle.reference.specs.Reference.{operation}
+use Rattle.reference.proofs.Refers.{ready, performed}
 use borrow.Author.Needs.{needs}
 use Rattle.reference.proofs.refer.Statement.{statement}
 use Rattle.reference.proofs.refer.Tie as tie
@@ -17,25 +10,135 @@ use Rattle.reference.proofs.refer.Tie as tie
 effective-address-requires : tie.Need-effective-address-requires
 effective-address-requires c κs = search needs
 
-operated-requires : tie.Need-operated-requires
-operated-requires c κs = let start = c .before .before .before .before .before .before in
-    let found = c .before .before .before .effective-address .ensures in (
-      rw (found .memory) (indexing-good (start .args .i) (start .args .last) (start .pre .0)),
-      rw (found .address) (effective-lt (start .args .i) (start .args .last) (start .pre .0 .memory)),
-    )
+and-to-requires : tie.Need-and-to-requires
+and-to-requires c κs =
+    let begin = c .before .before .before .before .before .before .before in
+    ready (begin .args .i) (begin .args .last) _ (begin .args .p) (now (begin .args .memory)) _ (c .before .before .before .effective-address .ensures) (begin .pre .0)
+
+effective-address-requires-2 : tie.Need-effective-address-requires-2
+effective-address-requires-2 c κs = search needs
+
+add-to-requires : tie.Need-add-to-requires
+add-to-requires c κs =
+    let begin = c .before .before .before .before .before .before .before in
+    ready (begin .args .i) (begin .args .last) _ (begin .args .p) (now (begin .args .memory)) _ (c .before .before .before .effective-address2 .ensures) (begin .pre .0)
+
+effective-address-requires-3 : tie.Need-effective-address-requires-3
+effective-address-requires-3 c κs = search needs
+
+increment-and-skip-requires : tie.Need-increment-and-skip-requires
+increment-and-skip-requires c κs =
+    let begin = c .before .before .before .before .before .before .before in
+    ready (begin .args .i) (begin .args .last) _ (begin .args .p) (now (begin .args .memory)) _ (c .before .before .before .effective-address3 .ensures) (begin .pre .0)
+
+effective-address-requires-4 : tie.Need-effective-address-requires-4
+effective-address-requires-4 c κs = search needs
+
+deposit-at-requires : tie.Need-deposit-at-requires
+deposit-at-requires c κs =
+    let begin = c .before .before .before .before .before .before .before in
+    ready (begin .args .i) (begin .args .last) _ (begin .args .p) (now (begin .args .memory)) _ (c .before .before .before .effective-address4 .ensures) (begin .pre .0)
+
+effective-address-requires-5 : tie.Need-effective-address-requires-5
+effective-address-requires-5 c κs = search needs
+
+call-at-requires : tie.Need-call-at-requires
+call-at-requires c κs =
+    let begin = c .before .before .before .before .before .before .before in
+    ready (begin .args .i) (begin .args .last) _ (begin .args .p) (now (begin .args .memory)) _ (c .before .before .before .effective-address5 .ensures) (begin .pre .0)
+
+effective-address-requires-6 : tie.Need-effective-address-requires-6
+effective-address-requires-6 c κs = search needs
+
+jump-to-requires : tie.Need-jump-to-requires
+jump-to-requires c κs =
+    let begin = c .before .before .before .before .before .before .before in
+    ready (begin .args .i) (begin .args .last) _ (begin .args .p) (now (begin .args .memory)) _ (c .before .before .before .effective-address6 .ensures) (begin .pre .0)
 
 same-length : tie.Need-same-length
 same-length c = search needs
 
 returns : tie.Need-returns
-unfolding reference
+unfolding operation
 returns c =
-    let begin = c .before .before .before .before .before .before .before .before .before .args in
-    let s = at (begin .p) (now (begin .memory)) in
-    let found = c .before .before .before .before .before .before .effective-address .ensures in
-    c .before .before .operated .ensures
-    ∙ ap (λ (m : List ℕ). interruptTest (operation (op (begin .i)) (c .before .before .before .before .before .before .effective-address .result) (withMemory m s))) (found .memory)
-    ∙ ap (λ (e : ℕ). interruptTest (operation (op (begin .i)) e (withMemory (afterIndexing (begin .i) (begin .last) (s .memory)) s))) (found .address)
+    let begin = c .before .before .before .before .before .before .before .before .before .before .args in
+    performed (begin .i) (begin .last) _ (begin .p) (now (begin .memory)) _ (c .before .before .before .before .before .before .effective-address .ensures) 0 _ (c .before .before .before .before .before .before .before .before .match .keys1) (c .before .before .and-to .ensures)
+
+same-length-2 : tie.Need-same-length-2
+same-length-2 c = search needs
+
+returns-2 : tie.Need-returns-2
+unfolding operation
+returns-2 c =
+    let begin = c .before .before .before .before .before .before .before .before .before .before .args in
+    performed (begin .i) (begin .last) _ (begin .p) (now (begin .memory)) _ (c .before .before .before .before .before .before .effective-address2 .ensures) 1 _ (c .before .before .before .before .before .before .before .before .match .keys2) (c .before .before .add-to .ensures)
+
+same-length-3 : tie.Need-same-length-3
+same-length-3 c = search needs
+
+returns-3 : tie.Need-returns-3
+unfolding operation
+returns-3 c =
+    let begin = c .before .before .before .before .before .before .before .before .before .before .args in
+    performed (begin .i) (begin .last) _ (begin .p) (now (begin .memory)) _ (c .before .before .before .before .before .before .effective-address3 .ensures) 2 _ (c .before .before .before .before .before .before .before .before .match .keys3) (c .before .before .increment-and-skip .ensures)
+
+same-length-4 : tie.Need-same-length-4
+same-length-4 c = search needs
+
+returns-4 : tie.Need-returns-4
+unfolding operation
+returns-4 c =
+    let begin = c .before .before .before .before .before .before .before .before .before .before .args in
+    performed (begin .i) (begin .last) _ (begin .p) (now (begin .memory)) _ (c .before .before .before .before .before .before .effective-address4 .ensures) 3 _ (c .before .before .before .before .before .before .before .before .match .keys4) (c .before .before .deposit-at .ensures)
+
+same-length-5 : tie.Need-same-length-5
+same-length-5 c = search needs
+
+returns-5 : tie.Need-returns-5
+unfolding operation
+returns-5 c =
+    let begin = c .before .before .before .before .before .before .before .before .before .before .args in
+    performed (begin .i) (begin .last) _ (begin .p) (now (begin .memory)) _ (c .before .before .before .before .before .before .effective-address5 .ensures) 4 _ (c .before .before .before .before .before .before .before .before .match .keys5) (c .before .before .call-at .ensures)
+
+same-length-6 : tie.Need-same-length-6
+same-length-6 c = search needs
+
+returns-6 : tie.Need-returns-6
+unfolding operation
+returns-6 c =
+    let begin = c .before .before .before .before .before .before .before .before .before .before .args in
+    performed (begin .i) (begin .last) _ (begin .p) (now (begin .memory)) _ (c .before .before .before .before .before .before .effective-address6 .ensures) 5 _ (c .before .before .before .before .before .before .before .before .match .keys6) (c .before .before .jump-to .ensures)
+
+-- no other op comes here
+returns-7 : tie.Need-returns-7
+returns-7 c = absurd (omega (arith, c .match .rest, c .before .before .pre))
 
 pub refer-spec : {M : Type 1} → statement M
-refer-spec = tie.close (tie.spec effective-address-requires operated-requires same-length returns)
+refer-spec =
+    tie.close
+    (tie.spec
+    effective-address-requires
+    and-to-requires
+    effective-address-requires-2
+    add-to-requires
+    effective-address-requires-3
+    increment-and-skip-requires
+    effective-address-requires-4
+    deposit-at-requires
+    effective-address-requires-5
+    call-at-requires
+    effective-address-requires-6
+    jump-to-requires
+    same-length
+    returns
+    same-length-2
+    returns-2
+    same-length-3
+    returns-3
+    same-length-4
+    returns-4
+    same-length-5
+    returns-5
+    same-length-6
+    returns-6
+    returns-7)

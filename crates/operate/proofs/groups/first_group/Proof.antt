@@ -4,8 +4,8 @@ use Prim.Native.Nat.{ℕ}
 use denote.Ref.{now}
 use Rattle.machine.specs.State.{at, withLac}
 use Rattle.machine.specs.Interrupt.{interruptTest}
-use Rattle.operate.specs.Operate.{turnedLeft, turnedRight, group1, rotated}
-use Rattle.operate.proofs.Changes.{changed-lt, turnedLeft-lt}
+use Rattle.operate.specs.Operate.{group1, rotated}
+use Rattle.operate.proofs.Changes.{changed-lt}
 use borrow.Author.Needs.{needs}
 use Rattle.operate.proofs.groups.first_group.Statement.{statement}
 use Rattle.operate.proofs.groups.first_group.Tie as tie
@@ -13,12 +13,8 @@ use Rattle.operate.proofs.groups.first_group.Tie as tie
 change-requires : tie.Need-change-requires
 change-requires c κs = search needs
 
-turn-left-requires : tie.Need-turn-left-requires
-turn-left-requires c κs = rw (c .change .ensures) (changed-lt (c .before .before .args .i) (c .before .before .pre .lac))
-
-turn-right-requires : tie.Need-turn-right-requires
-turn-right-requires c κs = let i = c .before .before .before .args .i in
-    rw (c .turn-left .ensures, c .before .change .ensures) (turnedLeft-lt i (changed-lt i (c .before .before .before .pre .lac)))
+rotate-requires : tie.Need-rotate-requires
+rotate-requires c κs = rw (c .change .ensures) (changed-lt (c .before .before .args .i) (c .before .before .pre .lac))
 
 interrupt-test-requires : tie.Need-interrupt-test-requires
 interrupt-test-requires c κs = search needs
@@ -27,21 +23,14 @@ same-length : tie.Need-same-length
 same-length c = search needs
 
 returns : tie.Need-returns
-unfolding group1 rotated
+unfolding group1
 returns c =
-    let begin = c .before .before .before .before .before .before .before .before .args in
+    let begin = c .before .before .before .before .before .before .before .args in
     let s = at (begin .p) (now (begin .memory)) in
     c .before .before .interrupt-test .ensures
-    ∙ ap (λ (x : ℕ). interruptTest (withLac x s)) (c .before .before .before .before .turn-right .ensures
-    ∙ ap (turnedRight (begin .i)) (c .before .before .before .before .before .turn-left .ensures ∙ ap (turnedLeft (begin .i)) (c .before .before .before .before .before .before .change .ensures)))
+    ∙ ap (λ (x : ℕ). interruptTest (withLac x s)) (c .before .before .before .before .rotate .ensures ∙ ap (rotated (begin .i)) (c .before .before .before .before .before .change .ensures))
 
 pub first-group-spec : {M : Type 1} → statement M
 first-group-spec =
     tie.close
-    (tie.spec
-    change-requires
-    turn-left-requires
-    turn-right-requires
-    interrupt-test-requires
-    same-length
-    returns)
+    (tie.spec change-requires rotate-requires interrupt-test-requires same-length returns)

@@ -2,6 +2,7 @@
 use mathlib.Core.Path.{_∙_, ap}
 use denote.Ref.{now}
 use lib.Dec.{eqb}
+use native.Mathlib.Omega.{arith}
 use borrow.Author.Tests.{ne-eqb}
 use borrow.Author.Needs.{needs}
 use Rattle.machine.specs.State.{at}
@@ -27,7 +28,7 @@ refer-requires : tie.Need-refer-requires
 refer-requires c κs =
     let begin = c .before .before .before .before .before .before in (
       counted-good (at (begin .args .p) (now (begin .args .memory))) _ _ (c .before .before .before .load .ensures) (c .before .before .increment .ensures) (begin .pre),
-      (rw (c .before .before .before .load .ensures) (begin .pre .memory .words (begin .args .p .pc)), begin .pre .pc),
+      (rw (c .before .before .before .load .ensures) (begin .pre .memory .words (begin .args .p .pc)), (begin .pre .pc, omega (arith, c .before .match .rest))),
     )
 
 same-length : tie.Need-same-length

@@ -1,2 +1,3 @@
 pub mod Lac
 pub mod Keeps
+pub mod Served

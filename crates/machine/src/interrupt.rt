@@ -14,10 +14,10 @@ const IOF: u64 = 0o6002;
 
 // The end of a step: an enabled request is served.
 pub fn interrupt_test(memory: &mut [u16], p: Processor) -> Processor
-    requires { ⌜ 0 < length (now memory) ⌝ ∗ ⌜ p .pc < 2 ^ wordBits ⌝ }
+    requires { ⌜ 0 < length (now memory) ⌝ ∗ ⌜ p .pc < 2 ^ wordBits ⌝ ∗ ⌜ p .enable < 2 ⌝ ∗ ⌜ p .request < 2 ⌝ }
     ensures { λ r. ⌜ at r (now (memory .exit)) ≡ interruptTest (at p (now (memory .entry))) ⌝ }
 {
-    if (p.enable != 0) & (p.request != 0) {
+    if p.enable & p.request != 0 {
         store(memory, 0, p.pc);
         let mut q = p;
         q.pc = 1;
@@ -30,7 +30,7 @@ pub fn interrupt_test(memory: &mut [u16], p: Processor) -> Processor
 
 // Op 6, with its interrupt test or without.
 pub fn input_output(memory: &mut [u16], p: Processor, i: u64) -> Processor
-    requires { ⌜ 0 < length (now memory) ⌝ ∗ ⌜ p .pc < 2 ^ wordBits ⌝ }
+    requires { ⌜ 0 < length (now memory) ⌝ ∗ ⌜ p .pc < 2 ^ wordBits ⌝ ∗ ⌜ p .enable < 2 ⌝ ∗ ⌜ p .request < 2 ⌝ }
     ensures { λ r. ⌜ at r (now (memory .exit)) ≡ inputOutput i (at p (now (memory .entry))) ⌝ }
 {
     if i == ION {

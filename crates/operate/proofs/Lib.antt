@@ -1,3 +1,4 @@
+pub mod Arms
 pub mod Changes
 pub mod Turns
 pub mod Keeps

@@ -1,8 +1,8 @@
--- The rotation of op 7 by the number that bits 8 to 10 make: the code's `match` on it is the definition's three tests.
+-- The rotation of op 7 by the number that bits 8 to 11 make: the code's `match` on it is the definition's four tests.
 -- Assumes nothing.
-use mathlib.Core.Path.{_≡_, refl, ap, _∙_}
+use mathlib.Core.Path.{_≡_, refl, sym, ap, _∙_}
 use mathlib.Core.Bool.{Bool, true, false}
-use Prim.Native.Nat.{ℕ, _/_, _%_, _^_, _<_}
+use Prim.Native.Nat.{ℕ, _+_, _%_, _^_, _<_}
 use native.Mathlib.Omega.{arith}
 use lib.Dec.{lit<}
 use Rattle.word.specs.Choice.{on, pick, choose}
@@ -10,30 +10,40 @@ use Rattle.word.specs.Word.{wordBits, bits, rotatedLeft, rotatedRight}
 use Rattle.word.proofs.Rotation.{left-then-right}
 use Rattle.machine.specs.State.{lacBits}
 use Rattle.machine.specs.Instruction.{flag}
-use Rattle.operate.specs.Operate.{rotated}
+use Rattle.operate.specs.Operate.{increased, turnedLeft, turnedRight, rotated}
+use Rattle.operate.proofs.Changes.{increased-lt}
 
 -- left where the second test holds, then right where the first does, by n places
 abbrev turned : Bool → Bool → ℕ → ℕ → ℕ
 turned right left n lac =
     pick right (rotatedRight lacBits n (pick left (rotatedLeft lacBits n lac) lac)) (pick left (rotatedLeft lacBits n lac) lac)
 
--- bits 8, 9 and 10 of the number k that they make
-pub rotated-by : (i k lac : ℕ) → bits wordBits 8 10 i ≡ k → rotated i lac ≡ turned (on (k / 4)) (on (k / 2 % 2)) (choose (k % 2) 2 1) lac
+-- two instructions with the same bits 8 to 11 ask for the same: the code's arm is tied to the instruction that has no other bit
+pub turned-alike : (i j lac : ℕ) {r : ℕ} → bits wordBits 8 11 i ≡ bits wordBits 8 11 j → r ≡ turnedRight j (turnedLeft j (increased j lac))
+    → r ≡ rotated i (increased i lac)
 unfolding rotated
-rotated-by i k lac made =
-    let eight : flag 8 i ≡ k / 4 = omega (arith, made) in
-    let nine : flag 9 i ≡ k / 2 % 2 = omega (arith, made) in
-    let ten : flag 10 i ≡ k % 2 = omega (arith, made) in
-    ap (λ (b : ℕ). turned (on b) (on (flag 9 i)) (choose (flag 10 i) 2 1) lac) eight
-    ∙ ap (λ (b : ℕ). turned (on (k / 4)) (on b) (choose (flag 10 i) 2 1) lac) nine
-    ∙ ap (λ (b : ℕ). turned (on (k / 4)) (on (k / 2 % 2)) (choose b 2 1) lac) ten
+turned-alike i j lac same made =
+    let eight : flag 8 i ≡ flag 8 j = omega (arith, same) in
+    let nine : flag 9 i ≡ flag 9 j = omega (arith, same) in
+    let ten : flag 10 i ≡ flag 10 j = omega (arith, same) in
+    let eleven : flag 11 i ≡ flag 11 j = omega (arith, same) in
+    rw (eight, nine, ten, eleven) made
 
 -- both ways or neither is no change
 back : (b : Bool) (n : ℕ) {lac : ℕ} → lac < 2 ^ lacBits → turned b b n lac ≡ lac
 back true n h = left-then-right lacBits (lit< tt) n h
 back false n h = refl
 
-pub unrotated : (i : ℕ) {lac : ℕ} → lac < 2 ^ lacBits → flag 8 i ≡ flag 9 i → rotated i lac ≡ lac
+unrotated : (i : ℕ) {lac : ℕ} → lac < 2 ^ lacBits → flag 8 i ≡ flag 9 i → rotated i lac ≡ lac
 unfolding rotated
 unrotated i {lac} h same =
     ap (λ (b : ℕ). turned (on b) (on (flag 9 i)) (choose (flag 10 i) 2 1) lac) same ∙ back (on (flag 9 i)) (choose (flag 10 i) 2 1) h
+
+-- so that of an instruction with both or neither bit 11 alone counts
+pub increased-alike : (i j : ℕ) {lac : ℕ} → lac < 2 ^ lacBits → bits wordBits 8 11 i ≡ bits wordBits 8 11 j → flag 8 j ≡ flag 9 j
+    → increased j lac ≡ rotated i (increased i lac)
+increased-alike i j {lac} h same both =
+    let eight : flag 8 i ≡ flag 8 j = omega (arith, same) in
+    let nine : flag 9 j ≡ flag 9 i = omega (arith, same) in
+    let eleven : flag 11 j ≡ flag 11 i = omega (arith, same) in
+    ap (λ (b : ℕ). choose b ((lac + 1) % 2 ^ lacBits) lac) eleven ∙ sym (unrotated i (increased-lt i h) (eight ∙ both ∙ nine))

@@ -1,7 +1,7 @@
 // The three groups, each with the step's interrupt test at its end.
 use crate::accumulator::change;
 use crate::accumulator::clear;
-use crate::rotate::rotate;
+use crate::rotate::increase_and_rotate;
 use crate::skip::skip;
 use machine::Processor;
 use machine::interrupt::interrupt_test;
@@ -43,7 +43,7 @@ pub fn first_group(memory: &mut [u16], p: Processor, i: u64) -> Processor
     ensures { λ r. ⌜ at r (now (memory .exit)) ≡ interruptTest (group1 i (at p (now (memory .entry)))) ⌝ }
 {
     let mut q = p;
-    q.lac = rotate(i, change(i, p.lac));
+    q.lac = increase_and_rotate(i, change(i, p.lac));
     interrupt_test(memory, q)
 }
 

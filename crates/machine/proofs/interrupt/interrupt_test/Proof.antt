@@ -8,6 +8,7 @@ use Rattle.word.specs.Choice.{on}
 use Rattle.word.proofs.Choice.{case-true, case-false}
 use Rattle.machine.specs.State.{at, withPc, withEnable, withMemory}
 use Rattle.machine.specs.Interrupt.{interrupted, interruptTest}
+use Rattle.machine.proofs.Served.{served, unserved}
 use borrow.Author.Needs.{needs}
 use Rattle.machine.proofs.interrupt.interrupt_test.Statement.{statement}
 use Rattle.machine.proofs.interrupt.interrupt_test.Tie as tie
@@ -21,17 +22,17 @@ same-length c = search needs
 returns : tie.Need-returns
 unfolding interruptTest
 returns c =
-    let begin = c .before .before .before .before .before .before .before .before .args in
-    let s = at (begin .p) (now (begin .memory)) in
+    let begin = c .before .before .before .before .before .before .before in
+    let s = at (begin .args .p) (now (begin .args .memory)) in
     ap (λ (m : List ℕ). withEnable 0 (withPc 1 (withMemory m s))) (c .before .before .store .ensures)
-    ∙ sym (case-true (on (s .enable) && on (s .request)) (interrupted s) s (c .before .before .before .before .if1 .taken))
+    ∙ sym (case-true (on (s .enable) && on (s .request)) (interrupted s) s (served (begin .pre .1 .1 .0) (begin .pre .1 .1 .1) (c .before .before .before .before .if1 .taken)))
 
 returns-2 : tie.Need-returns-2
 unfolding interruptTest
 returns-2 c =
-    let begin = c .before .before .before .before .args in
-    let s = at (begin .p) (now (begin .memory)) in
-    sym (case-false (on (s .enable) && on (s .request)) (interrupted s) s (c .if1 .left))
+    let begin = c .before .before .before in
+    let s = at (begin .args .p) (now (begin .args .memory)) in
+    sym (case-false (on (s .enable) && on (s .request)) (interrupted s) s (unserved (begin .pre .1 .1 .0) (begin .pre .1 .1 .1) (c .if1 .left)))
 
 pub interrupt-test-spec : {M : Type 1} → statement M
 interrupt-test-spec = tie.close (tie.spec store-requires same-length returns returns-2)

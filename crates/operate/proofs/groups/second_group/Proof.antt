@@ -30,7 +30,7 @@ halt-requires c κs = search needs
 interrupt-test-requires : tie.Need-interrupt-test-requires
 interrupt-test-requires c κs = let start = c .before .before .before .before .before .before in (
   omega (arith, start .pre .memory .size),
-  rw (c .before .before .before .before .skip .ensures) (pick-either (λ (n : ℕ). n < 2 ^ 12) (skips (start .args .i) (start .args .p .lac)) (next-lt (start .args .p .pc)) (start .pre .pc)),
+  (rw (c .before .before .before .before .skip .ensures) (pick-either (λ (n : ℕ). n < 2 ^ 12) (skips (start .args .i) (start .args .p .lac)) (next-lt (start .args .p .pc)) (start .pre .pc)), (start .pre .enable, start .pre .request)),
 )
 
 same-length : tie.Need-same-length

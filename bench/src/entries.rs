@@ -1,20 +1,6 @@
 //! The library's entries.
 
-extern "C" {
-    fn guavachisel_emulate(memory: *mut u16, words: usize, registers: *mut u16, budget: u64, outcome: *mut u64);
-    fn guavachisel_read(text: *const u8, bytes: usize, outcome: *mut u64);
-    fn guavachisel_evaluate(
-        text: *const u8,
-        bytes: usize,
-        memory: *mut u16,
-        words: usize,
-        registers: *mut u16,
-        budget: u64,
-        rows: *mut u8,
-        places: usize,
-        outcome: *mut u64,
-    );
-}
+use crate::library::{guavachisel_emulate, guavachisel_evaluate, guavachisel_read};
 
 pub fn emulate(memory: &mut [u16], registers: &mut [u16; 6], budget: u64) -> [u64; 3] {
     let mut outcome = [0; 3];

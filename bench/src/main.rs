@@ -2,6 +2,8 @@
 //! Usage: bench WORK DESCRIPTION ROUNDS PERCENT (WORK: a folder for SIMH's command file; PERCENT: how much of the full work each turn does)
 
 mod entries;
+#[path = "../../harness/library.rs"]
+mod library;
 mod programs;
 mod simh;
 mod texts;

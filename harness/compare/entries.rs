@@ -1,22 +1,8 @@
 //! Calls of the C entries under test. Everything lent to an entry stands between guard places, which have to stay.
 
-const GUARDS: usize = 16;
+use crate::library::{guavachisel_emulate, guavachisel_evaluate, guavachisel_read};
 
-extern "C" {
-    fn guavachisel_emulate(memory: *mut u16, words: usize, registers: *mut u16, budget: u64, outcome: *mut u64);
-    fn guavachisel_read(text: *const u8, bytes: usize, outcome: *mut u64);
-    fn guavachisel_evaluate(
-        text: *const u8,
-        bytes: usize,
-        memory: *mut u16,
-        words: usize,
-        registers: *mut u16,
-        budget: u64,
-        rows: *mut u8,
-        places: usize,
-        outcome: *mut u64,
-    );
-}
+const GUARDS: usize = 16;
 
 /// Values between guards.
 struct Guarded<T> {

@@ -11,6 +11,8 @@ mod edges;
 mod entries;
 mod expressions;
 mod images;
+#[path = "../library.rs"]
+mod library;
 mod limits;
 mod listings;
 mod random;

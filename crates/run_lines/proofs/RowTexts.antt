@@ -17,7 +17,8 @@ use Rattle.fields.specs.Fields.{lineFeed, before, after, Line, lines, firstLine
 use Rattle.fields.proofs.Lines.{first-line}
 use Rattle.characters.proofs.Tests.{and-left, and-right}
 use Rattle.shipped.specs.Text.{shippedText}
-use Rattle.run_lines.specs.Rows.{isRow, rowTexts, rowOf, rowLine, rowLines}
+use Rattle.targets.specs.Targets.{isRow}
+use Rattle.run_lines.specs.Rows.{rowTexts, rowOf, rowLine, rowLines}
 
 -- ---- one line
 

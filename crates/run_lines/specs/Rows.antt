@@ -1,19 +1,16 @@
 -- The rows of the shipped description, each "with its number, a TAB and its text as shipped".
 -- Assumes nothing.
 use mathlib.Core.List.{List, [], _∷_, _++_}
-use mathlib.Core.Bool.{Bool, true, false, _||_}
+use mathlib.Core.Bool.{true, false}
 use Prim.Native.Nat.{ℕ, _+_, _-_, _*_, _≤_}
 use lib.ListN.{getD}
-use Rattle.page.specs.Text.{ascii, tab, lineFeed, decimal}
+use Rattle.page.specs.Text.{tab, lineFeed, decimal}
 use Rattle.page.specs.Written.{Written}
-use Rattle.characters.specs.Characters.{same}
-use Rattle.fields.specs.Fields.{Line, lines, field}
+use Rattle.fields.specs.Fields.{Line, lines}
 use Rattle.shipped.specs.Text.{shippedText}
+use Rattle.targets.specs.Targets.{isRow}
 
--- "`do` and `go` lines are rows"
-abbrev pub isRow : List ℕ → Bool
-isRow line = same (field 0 line) (ascii "do") || same (field 0 line) (ascii "go")
-
+-- "`do` and `go` lines are rows", as for the reader
 unfoldable pub rowTexts : List Line → List (List ℕ)
 rowTexts [] = []
 rowTexts (l ∷ ls) = elim (isRow (l .bytes)) [ true ↦ l .bytes ∷ rowTexts ls | false ↦ rowTexts ls ]

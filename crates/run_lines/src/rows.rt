@@ -12,7 +12,8 @@ ghost use lib.ListN.{length, take};
 ghost use Rattle.word.specs.Choice.{pick};
 ghost use Rattle.page.specs.Written.{Written};
 ghost use Rattle.shipped.specs.Text.{shippedText};
-ghost use Rattle.run_lines.specs.Rows.{isRow, rowOf, rowLine, rowLines, Listed};
+ghost use Rattle.targets.specs.Targets.{isRow};
+ghost use Rattle.run_lines.specs.Rows.{rowOf, rowLine, rowLines, Listed};
 ghost use Rattle.run_lines.specs.Registers.{pageBytes};
 
 // Whether a line is a row.

@@ -9,7 +9,8 @@ use lib.ListN.{length, getD, length-drop}
 use borrow.Author.Tests.{eqb-true}
 use Rattle.fields.specs.Fields.{lineFeed, until, lines}
 use Rattle.characters.proofs.Tests.{and-left, and-right}
-use Rattle.run_lines.specs.Rows.{isRow, rowTexts}
+use Rattle.targets.specs.Targets.{isRow}
+use Rattle.run_lines.specs.Rows.{rowTexts}
 use Rattle.run_lines.proofs.RowTexts.{row-found, row-passed, row-none}
 use Rattle.run_lines.proofs.rows.row_of.Statement.{statement}
 use Rattle.run_lines.proofs.rows.row_of.Tie as tie

@@ -3,16 +3,16 @@
 use mathlib.Core.Path.{_≡_, refl, sym, ap, subst, _∙_}
 use mathlib.Core.Bool.{Bool, true, false, _&&_}
 use mathlib.Core.List.{List, [], _∷_}
-use Prim.Native.Nat.{ℕ, _+_, _-_, _≤_, _<_}
+use Prim.Native.Nat.{ℕ, _+_, _-_, _*_, _≤_, _<_}
 use native.Mathlib.Omega.{arith}
 use lib.Dec.{eqb, leb, ltb}
-use lib.ListN.{length, getD, drop, length-drop, drop-of-length-le}
+use lib.ListN.{length, getD, drop, length-drop, drop-of-length-le, replicate}
 use lib.Seq.{drop-drop}
 use borrow.Author.Tests.{ltb-true, leb-true, leb-false}
 use Rattle.characters.specs.Characters.{same}
 use Rattle.fields.specs.Fields as fields
 use Rattle.fields.specs.Fields.{lineFeed, until, before, after, lines, firstLine}
-use Rattle.names.specs.Names.{entriesFrom, entries, find}
+use Rattle.names.specs.Names.{entriesFrom, entries, find, none}
 use Rattle.names.specs.declared.Dictionary.{Dictionary}
 use Rattle.characters.proofs.Tests.{by-test}
 use Rattle.fields.proofs.Lines.{first-line, no-line}
@@ -25,17 +25,19 @@ use Rattle.declaration.specs.declared.lines.Status.{Status}
 use Rattle.declaration.specs.declared.lines.Status.the-variants.{Goes, Refused}
 use Rattle.declaration.specs.declared.lines.Step as taken
 use Rattle.declaration.specs.Rows.{Row}
-use Rattle.declaration.specs.Limits.{mostBytes}
+use Rattle.declaration.specs.Limits.{mostBytes, mostRows}
 use Rattle.declaration.specs.Lines.{Progress, refused, next}
 use Rattle.declaration.specs.Stored.{progressOf, stepBy, Within}
+use Rattle.code.specs.Met.{capacity}
 use Rattle.row.specs.Cells as cells
+use Rattle.row.specs.Cells.{rowCells}
 use Rattle.row.specs.Stored.{Tables, Takes}
 use Rattle.line.specs.Line.{readLine, Rest}
 use Rattle.description.specs.declared.reader.Answer as reader
 use Rattle.description.specs.declared.reader.Verdict.{Verdict}
 use Rattle.description.specs.declared.reader.Verdict.the-variants as verdict
 use Rattle.description.specs.Description.{Answer, accepted, turnedDown, header, runName, nothing, hasRun, finished, readLines, readText}
-use Rattle.description.specs.Stored.{unread, answerBy, Finishes, Answers}
+use Rattle.description.specs.Stored.{unread, answerBy, Finishes, Tells, Answers}
 
 -- what is left of a text
 pub rest-drop : (text : List ℕ) (k : ℕ) → Rest text (drop k text)
@@ -159,9 +161,9 @@ module _ (text code₀ table₀ rest : List ℕ) (q : code.Progress) (n : ℕ) (
 
   -- past the last line
   pub turn-last : (a : reader.Answer) (v : Verdict) → length rest ≤ 0 → Finishes text q n v → a ≡ record { registers = q .registers; rows = q .rows; verdict = v }
-      → Answers text (readLines nothing 2 (lines (after lineFeed text))) a code₀ code₁ table₀ table₁
+      → Tells text (readLines nothing 2 (lines (after lineFeed text))) a code₀ code₁ table₀ table₁
   turn-last a v h f e =
-      subst (λ (x : reader.Answer). Answers text (readLines nothing 2 (lines (after lineFeed text))) x code₀ code₁ table₀ table₁) (sym e)
+      subst (λ (x : reader.Answer). Tells text (readLines nothing 2 (lines (after lineFeed text))) x code₀ code₁ table₀ table₁) (sym e)
       (record {
         rows = t .rows;
         is = t .is ∙ ap (readLines (progressOf text q (t .rows)) n) (no-line rest h) ∙ no-lines (progressOf text q (t .rows)) n ∙ f (t .rows);
@@ -174,23 +176,59 @@ abbrev isAccepted : Verdict → Bool
 isAccepted verdict.Accepted = true
 isAccepted (verdict.Refused f n) = false
 
+-- the answer that accepts nothing
+abbrev down : Fault → ℕ → reader.Answer
+down f n = record { registers = none; rows = 0; verdict = verdict.Refused f n }
+
 -- a text that is turned down
-pub answers-refused : (text : List ℕ) (x : Answer) (f : Fault) (n : ℕ) (a : reader.Answer) (code₀ code₁ table₀ table₁ : List ℕ) → a .verdict ≡ verdict.Refused f n → x ≡ turnedDown f n
-    → Answers text x a code₀ code₁ table₀ table₁
-answers-refused text x f n a code₀ code₁ table₀ table₁ e g =
+pub tells-refused : (text : List ℕ) (x : Answer) (f : Fault) (n : ℕ) (a : reader.Answer) (code₀ code₁ table₀ table₁ : List ℕ) → a ≡ down f n → x ≡ turnedDown f n
+    → Tells text x a code₀ code₁ table₀ table₁
+tells-refused text x f n a code₀ code₁ table₀ table₁ e g =
     record {
       rows = [];
-      is = g ∙ ap (λ (v : Verdict). answerBy v (record { registers = entries text (a .registers); rows = [] })) (sym e);
+      is = g ∙ ap (λ (r : reader.Answer). answerBy (r .verdict) (record { registers = entries text (a .registers); rows = [] })) (sym e);
       rows-are = λ k. other k;
       code-is = λ k. other k;
       table-is = λ k. other k;
     }
   where
     other : {P : Type 0} → a .verdict ≡ verdict.Accepted → P
-    other k = absurd (mathlib.Core.Bool.false≢true (ap isAccepted (sym e ∙ k)))
+    other k = absurd (mathlib.Core.Bool.false≢true (ap isAccepted (sym (ap (λ (r : reader.Answer). r .verdict) e) ∙ k)))
 
-pub answers-as : (text : List ℕ) (x y : Answer) (a : reader.Answer) (code₀ code₁ table₀ table₁ : List ℕ) → x ≡ y → Answers text y a code₀ code₁ table₀ table₁ → Answers text x a code₀ code₁ table₀ table₁
-answers-as text x y a code₀ code₁ table₀ table₁ e k = subst (λ (z : Answer). Answers text z a code₀ code₁ table₀ table₁) (sym e) k
+pub tells-as : (text : List ℕ) (x y : Answer) (a : reader.Answer) (code₀ code₁ table₀ table₁ : List ℕ) → x ≡ y → Tells text y a code₀ code₁ table₀ table₁ → Tells text x a code₀ code₁ table₀ table₁
+tells-as text x y a code₀ code₁ table₀ table₁ e k = subst (λ (z : Answer). Tells text z a code₀ code₁ table₀ table₁) (sym e) k
+
+-- what a caller finds of a text that is accepted, and of one that is turned down, after which the tables are emptied
+pub answers-accepted : (text : List ℕ) (x : Answer) (a : reader.Answer) (code₀ code₁ table₀ table₁ : List ℕ) → a .verdict ≡ verdict.Accepted
+    → Tells text x a code₀ code₁ table₀ table₁ → Answers text x a code₀ code₁ table₀ table₁
+answers-accepted text x a code₀ code₁ table₀ table₁ e t =
+    record {
+      rows = t .rows;
+      is = t .is;
+      rows-are = t .rows-are;
+      code-is = t .code-is;
+      table-is = t .table-is;
+      refused = λ f n k. absurd (mathlib.Core.Bool.false≢true (ap isAccepted (sym k ∙ e)));
+    }
+
+pub answers-refused : (text : List ℕ) (x : Answer) (f : Fault) (n : ℕ) (a r : reader.Answer) (code₀ code₁ code₂ table₀ table₁ table₂ : List ℕ)
+    → a .verdict ≡ verdict.Refused f n → Tells text x a code₀ code₁ table₀ table₁ → r ≡ down f n → code₂ ≡ replicate (4 * capacity) 0
+    → table₂ ≡ replicate (rowCells * mostRows) 0 → Answers text x r code₀ code₂ table₀ table₂
+answers-refused text x f n a r code₀ code₁ code₂ table₀ table₁ table₂ e t is no-code no-rows =
+    let told = tells-refused text x f n r code₀ code₂ table₀ table₂ is
+    (t .is ∙ ap (λ (v : Verdict). answerBy v (record { registers = entries text (a .registers); rows = t .rows })) e) in
+    record {
+      rows = told .rows;
+      is = told .is;
+      rows-are = told .rows-are;
+      code-is = told .code-is;
+      table-is = told .table-is;
+      refused = λ g k q. record {
+        is = is ∙ ap (λ (v : Verdict). record { registers = none; rows = 0; verdict = v }) (sym (ap (λ (z : reader.Answer). z .verdict) is) ∙ q);
+        code-is = no-code;
+        table-is = no-rows;
+      };
+    }
 
 -- the header
 module _ (s : List ℕ) where

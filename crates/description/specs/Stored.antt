@@ -3,14 +3,17 @@
 use mathlib.Core.Path.{_≡_}
 use mathlib.Core.Bool.{false}
 use mathlib.Core.List.{List}
-use Prim.Native.Nat.{ℕ}
-use lib.ListN.{length}
+use Prim.Native.Nat.{ℕ, _*_}
+use lib.ListN.{length, replicate}
 use lib.Seq.{sets}
 use Rattle.names.specs.Names.{entries, none}
 use Rattle.declaration.specs.declared.lines.Progress as progress
 use Rattle.declaration.specs.Rows.{Row, Description}
 use Rattle.declaration.specs.Stored.{progressOf}
-use Rattle.row.specs.Cells.{code, cells}
+use Rattle.code.specs.Met.{capacity}
+use Rattle.declaration.specs.Limits.{mostRows}
+use Rattle.declaration.specs.declared.faults.Fault.{Fault}
+use Rattle.row.specs.Cells.{rowCells, code, cells}
 use Rattle.description.specs.declared.reader.Answer as reader
 use Rattle.description.specs.declared.reader.Verdict.{Verdict}
 use Rattle.description.specs.declared.reader.Verdict.the-variants as verdict
@@ -31,10 +34,25 @@ Finishes text q n v =
 abbrev pub unread : progress.Progress
 unread = record { registers = none; labels = none; rows = 0; words = 0; pieces = 0; begun = false; missing = 0 }
 
--- the answer to a text, with the rows behind it, whose words an accepted text leaves in the tables
+-- what an answer tells of a text, with the rows behind it, whose words an accepted text leaves in the tables
+pub record Tells (text : List ℕ) (x : Answer) (r : reader.Answer) (code₀ code₁ table₀ table₁ : List ℕ) : Type 0 where
+  pub rows : List Row
+  pub is : x ≡ answerBy (r .verdict) (record { registers = entries text (r .registers); rows = rows })
+  pub rows-are : r .verdict ≡ Accepted → r .rows ≡ length rows
+  pub code-is : r .verdict ≡ Accepted → code₁ ≡ sets code₀ 0 (code rows)
+  pub table-is : r .verdict ≡ Accepted → table₁ ≡ sets table₀ 0 (cells 0 rows)
+
+-- what a refusal leaves: no registers, no rows, and nothing in the tables
+pub record Emptied (f : Fault) (n : ℕ) (r : reader.Answer) (code₁ table₁ : List ℕ) : Type 0 where
+  pub is : r ≡ record { registers = none; rows = 0; verdict = verdict.Refused f n }
+  pub code-is : code₁ ≡ replicate (4 * capacity) 0
+  pub table-is : table₁ ≡ replicate (rowCells * mostRows) 0
+
+-- the answer to a text, and every place of the tables
 pub record Answers (text : List ℕ) (x : Answer) (r : reader.Answer) (code₀ code₁ table₀ table₁ : List ℕ) : Type 0 where
   pub rows : List Row
   pub is : x ≡ answerBy (r .verdict) (record { registers = entries text (r .registers); rows = rows })
   pub rows-are : r .verdict ≡ Accepted → r .rows ≡ length rows
   pub code-is : r .verdict ≡ Accepted → code₁ ≡ sets code₀ 0 (code rows)
   pub table-is : r .verdict ≡ Accepted → table₁ ≡ sets table₀ 0 (cells 0 rows)
+  pub refused : (f : Fault) (n : ℕ) → r .verdict ≡ verdict.Refused f n → Emptied f n r code₁ table₁

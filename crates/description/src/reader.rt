@@ -11,11 +11,11 @@ ghost use mathlib.Core.Path.{_≡_};
 ghost use Prim.Native.Nat.{_≤_};
 ghost use lib.ListN.{length};
 ghost use Rattle.fields.specs.Fields.{lineFeed, after, lines};
-ghost use Rattle.names.specs.Names.{entries};
+ghost use Rattle.names.specs.Names.{entries, none};
 ghost use Rattle.declaration.specs.Limits.{mostBytes};
 ghost use Rattle.description.specs.declared.reader.Verdict.the-variants as verdict;
 ghost use Rattle.description.specs.Description.{nothing, hasRun, readLines, readText};
-ghost use Rattle.description.specs.Stored.{unread, Finishes, Answers};
+ghost use Rattle.description.specs.Stored.{unread, Finishes, Tells, Answers};
 
 // What a text comes to.
 pub enum Verdict {
@@ -70,7 +70,7 @@ fn start() -> Progress
 
 // An answer that accepts nothing.
 fn turned_down(f: Fault, line: usize) -> Answer
-    ensures { λ r. ⌜ r .verdict ≡ verdict.Refused f line ⌝ }
+    ensures { λ r. ⌜ r ≡ record { registers = none; rows = 0; verdict = verdict.Refused f line } ⌝ }
 {
     Answer {
         registers: names::empty(),
@@ -82,7 +82,7 @@ fn turned_down(f: Fault, line: usize) -> Answer
 // The lines below the header.
 fn read_lines(text: &[u8], code: &mut [u16; CODE_PLACES], table: &mut [u16; TABLE_CELLS]) -> Answer
     requires { ⌜ length (now text) ≤ mostBytes ⌝ }
-    ensures { λ r. ⌜ Answers (now (text .entry)) (readLines nothing 2 (lines (after lineFeed (now (text .entry))))) r
+    ensures { λ r. ⌜ Tells (now (text .entry)) (readLines nothing 2 (lines (after lineFeed (now (text .entry))))) r
         (now (code .entry)) (now (code .exit)) (now (table .entry)) (now (table .exit)) ⌝ }
 {
     let mut rest = fields::part_after(text, LINE_FEED);
@@ -110,9 +110,9 @@ fn read_lines(text: &[u8], code: &mut [u16; CODE_PLACES], table: &mut [u16; TABL
     }
 }
 
-// Reads a description: what it says goes into the lent tables.
-pub fn read(text: &[u8], code: &mut [u16; CODE_PLACES], table: &mut [u16; TABLE_CELLS]) -> Answer
-    ensures { λ r. ⌜ Answers (now (text .entry)) (readText (now (text .entry))) r
+// Size, header, and the lines.
+fn read_text(text: &[u8], code: &mut [u16; CODE_PLACES], table: &mut [u16; TABLE_CELLS]) -> Answer
+    ensures { λ r. ⌜ Tells (now (text .entry)) (readText (now (text .entry))) r
         (now (code .entry)) (now (code .exit)) (now (table .entry)) (now (table .exit)) ⌝ }
 {
     if limits::TEXT_BYTES < text.len() {
@@ -126,5 +126,22 @@ pub fn read(text: &[u8], code: &mut [u16; CODE_PLACES], table: &mut [u16; TABLE_
         read_lines(text, code, table)
     } else {
         turned_down(Fault::Line, 1)
+    }
+}
+
+// Reads a description: what it says goes into the lent tables, which are empty after a refusal.
+pub fn read(text: &[u8], code: &mut [u16; CODE_PLACES], table: &mut [u16; TABLE_CELLS]) -> Answer
+    ensures { λ r. ⌜ Answers (now (text .entry)) (readText (now (text .entry))) r
+        (now (code .entry)) (now (code .exit)) (now (table .entry)) (now (table .exit)) ⌝ }
+{
+    let answer = read_text(text, code, table);
+    let verdict = answer.verdict;
+    match verdict {
+        Verdict::Accepted => answer,
+        Verdict::Refused(f, line) => {
+            *code = [0; CODE_PLACES];
+            *table = [0; TABLE_CELLS];
+            turned_down(f, line)
+        }
     }
 }

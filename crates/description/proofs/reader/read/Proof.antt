@@ -1,77 +1,37 @@
--- `reader::read`: size, header, then the lines.
-use mathlib.Core.Path.{sym, ap, _∙_}
-use mathlib.Core.List.{List}
-use Prim.Native.Nat.{ℕ}
-use native.Mathlib.Omega.{arith}
-use lib.ListN.{length}
+-- `reader::read`: what an accepted text leaves, and the tables emptied after a refusal.
+use mathlib.Core.Path.{refl}
 use borrow.Author.Needs.{needs}
-use borrow.Author.Tests.{le-leb, lt-leb, lt-ltb, le-ltb, not-true, not-false}
-use Rattle.characters.specs.Characters.{same}
-use Rattle.fields.specs.Fields.{lineFeed, until}
-use Rattle.fields.proofs.Lines.{before-length}
-use Rattle.description.specs.Description.{header}
-use Rattle.description.proofs.Texts.{answers-refused, answers-as, too-long, no-header, header-alone, after-header}
+use Rattle.description.proofs.Texts.{answers-accepted, answers-refused}
 use Rattle.description.proofs.reader.read.Statement.{statement}
 use Rattle.description.proofs.reader.read.Tie as tie
+
+read-text-requires : tie.Need-read-text-requires
+read-text-requires c κs = search needs
+
+enum-told : tie.Need-enum-told
+enum-told c = search needs
+
+enum-known-verdict : tie.Need-enum-known-verdict
+enum-known-verdict c = search needs
 
 turned-down-requires : tie.Need-turned-down-requires
 turned-down-requires c κs = search needs
 
 returns : tie.Need-returns
-returns c = answers-refused _ _ _ _ _ _ _ _ _ (c .turned-down .ensures) (too-long _ (lt-leb _ _ (c .before .if1 .taken)))
-
-part-before-requires : tie.Need-part-before-requires
-part-before-requires c κs = search needs
-
-slice-aggregate-is-same : tie.Need-slice-aggregate-is-same
-slice-aggregate-is-same c = search needs
-
-is-same-requires : tie.Need-is-same-requires
-is-same-requires c κs = search needs
-
-turned-down-requires-2 : tie.Need-turned-down-requires-2
-turned-down-requires-2 c κs = search needs
+returns c = answers-accepted _ _ _ _ _ _ _ (c .enum-told .given .1) (c .before .before .read-text .ensures)
 
 returns-2 : tie.Need-returns-2
 returns-2 c =
-    answers-refused _ _ _ _ _ _ _ _ _ (c .turned-down2 .ensures)
-    (no-header _ (le-leb _ _ (c .before .before .before .before .before .if1 .left)) (ap (λ (l : List ℕ). same l header) (sym (c .before .before .before .before .part-before .ensures)) ∙ sym (c .before .before .is-same .ensures) ∙ not-true _ (c .before .if2 .taken)))
-
-read-lines-requires : tie.Need-read-lines-requires
-read-lines-requires c κs = c .before .before .before .before .before .before .before .if1 .left
-
-turned-down-requires-3 : tie.Need-turned-down-requires-3
-turned-down-requires-3 c κs = search needs
-
-returns-3 : tie.Need-returns-3
-returns-3 c =
-    let text = c .before .before .before .before .before .before .before .before .before .before .args .text .now in
-    let before = c .before .before .before .before .before .before .before .part-before .ensures in
-    answers-as text _ _ _ _ _ _ _
-    (after-header text (le-leb _ _ (c .before .before .before .before .before .before .before .before .if1 .left)) (ap (λ (l : List ℕ). same l header) (sym before) ∙ sym (c .before .before .before .before .before .is-same .ensures) ∙ not-false _ (c .before .before .before .before .if2 .left))
-    (lt-ltb (until lineFeed text) (length text) (omega (arith, c .before .before .before .if3 .taken, ap length before ∙ before-length lineFeed text))))
-    (c .read-lines .ensures)
-
-returns-4 : tie.Need-returns-4
-returns-4 c =
-    let text = c .before .before .before .before .before .before .before .before .args .text .now in
-    let before = c .before .before .before .before .before .part-before .ensures in
-    answers-refused text _ _ _ _ _ _ _ _ (c .turned-down3 .ensures)
-    (header-alone text (le-leb _ _ (c .before .before .before .before .before .before .if1 .left)) (ap (λ (l : List ℕ). same l header) (sym before) ∙ sym (c .before .before .before .is-same .ensures) ∙ not-false _ (c .before .before .if2 .left))
-    (le-ltb (until lineFeed text) (length text) (omega (arith, c .before .if3 .left, ap length before ∙ before-length lineFeed text))))
+    answers-refused _ _ _ _ _ _ _ _ _ _ _ _ (c .before .before .before .before .verdict .given .1) (c .before .before .before .before .before .before .read-text .ensures)
+    (c .turned-down .ensures) refl refl
 
 pub read-spec : {M : Type 1} → statement M
 read-spec =
     tie.close
     (tie.spec
+    read-text-requires
+    enum-told
+    enum-known-verdict
     turned-down-requires
     returns
-    part-before-requires
-    slice-aggregate-is-same
-    is-same-requires
-    turned-down-requires-2
-    returns-2
-    read-lines-requires
-    turned-down-requires-3
-    returns-3
-    returns-4)
+    returns-2)

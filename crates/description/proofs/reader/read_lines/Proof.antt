@@ -4,7 +4,7 @@ use Prim.Native.Nat.{_+_}
 use native.Mathlib.Omega.{arith}
 use lib.ListN.{length, length-drop}
 use Rattle.fields.specs.Fields.{lineFeed, until}
-use Rattle.description.proofs.Texts.{Turning, turn-start, turn-refused, turn-next, turn-last, answers-refused}
+use Rattle.description.proofs.Texts.{Turning, turn-start, turn-refused, turn-next, turn-last, tells-refused}
 use borrow.Author.Needs.{needs}
 use Rattle.description.proofs.reader.read_lines.Statement.{statement}
 use Rattle.description.proofs.reader.read_lines.Tie as tie
@@ -44,7 +44,7 @@ turned-down-requires c κs = search needs
 returns : tie.Need-returns Inv-loop μ-loop
 returns c =
     let t = c .before .before .before .before .before .before .before .before .loop .inv in
-    answers-refused (c .before .before .before .before .before .before .before .before .before .before .before .before .args .text .now) _ _ _ _ _ _ _ _ (c .turned-down .ensures)
+    tells-refused (c .before .before .before .before .before .before .before .before .before .before .before .before .args .text .now) _ _ _ _ _ _ _ _ (c .turned-down .ensures)
     (turn-refused (c .before .before .before .before .before .before .before .before .before .before .before .before .args .text .now) _ _ _ _ _ _ _ t _ _ _ (c .before .before .before .before .before .before .before .loop-test .taken) (c .before .before .before .before .read-line .ensures) _ (c .before .before .status .given .1))
 
 part-after-requires-2 : tie.Need-part-after-requires-2 Inv-loop μ-loop

@@ -1,5 +1,6 @@
 // The lines of the listing.
 use crate::PAGE_BYTES;
+use page::LINE_FEED;
 use page::put_byte;
 use page::put_decimal;
 use page::put_field;
@@ -12,8 +13,6 @@ ghost use Rattle.state.specs.declared.Reason.the-variants.{Halted, Spent};
 ghost use Rattle.day_listing.specs.Listing.{stepLine, endLine, refusedLine};
 ghost use Rattle.page.specs.Written.{Written, Page};
 ghost use Rattle.day_listing.specs.Stepped.{pageBytes};
-
-const LINE_FEED: u8 = 10;
 
 // The line of a step.
 pub(crate) fn put_step_line(

@@ -1,14 +1,12 @@
 // An image, read byte by byte: lines of four-digit octal address, TAB, four-digit octal word. The words are loaded as they come.
+use page::LINE_FEED;
+use page::TAB;
 use state::MEMORY_WORDS;
 ghost use mathlib.Core.Path.{_≡_};
 ghost use mathlib.Core.List.{[]};
 ghost use Rattle.image.specs.Input.{form};
 ghost use Rattle.image.specs.Scan.{held, fresh, shifted, scanByte, scanOf, unfitLine, Scanned};
 ghost use Rattle.image.specs.Scan.{accepted as Scan·accepted};
-
-const TAB: u8 = 9;
-
-const LINE_FEED: u8 = 10;
 
 // The place in the input: the line's number from 1, the bytes read of it, the address and the word so far, and the first line
 // that was refused, or 0.

@@ -7,7 +7,9 @@ ghost use Rattle.page.specs.Text.{tab, octal, decimal};
 ghost use Rattle.page.specs.Text.{digit as Text·digit};
 ghost use Rattle.page.specs.Written.{Written};
 
-const TAB: u8 = 9;
+pub const TAB: u8 = 9;
+
+pub const LINE_FEED: u8 = 10;
 
 // One byte.
 pub fn put_byte(page: &mut [u8], at: usize, b: u8) -> usize

@@ -9,7 +9,7 @@ use lib.Dec.{eqb, leb, ltb}
 use lib.ListN.{length, getD}
 use borrow.Author.Tests.{ltb-true, leb-true, eqb-true}
 use Rattle.characters.specs.Characters.{isDigit, isLetter, isWord, runEnd}
-use Rattle.constants.specs.Constants.{numberAt, isPlain, largest, decimalAt, markedAt, ofDecimal, constantAt}
+use Rattle.constants.specs.Constants.{numberAt, isPlain, largest, decimalAt, markedAt, ofDecimal, constantAt, binaryDigits, octalDigits}
 use Rattle.names.specs.Names.{Named, find}
 use Rattle.characters.specs.declared.Class.{Class}
 use Rattle.characters.specs.declared.Class.the-variants.{Space, Word, Binary, Octal, Decimal}
@@ -24,7 +24,7 @@ use Rattle.bit_parts.specs.declared.Span.the-variants.{Bits, Bad}
 use Rattle.bit_parts.specs.declared.Reference.the-variants.{Whole, Part, Unknown}
 use Rattle.operators.specs.declared.Entry.{Entry}
 use Rattle.operators.specs.Operators.{table, noEntry, entryIn}
-use Rattle.operator_names.specs.OperatorNames.{placeIn, operatorRow}
+use Rattle.operator_names.specs.OperatorNames.{findIn, operatorRow}
 use Rattle.tokens.specs.Tokens.{skip, next, slice, tokenEnd, operatorAt, operatorEnd}
 use Rattle.bit_parts.specs.References.{secondBit, firstBit, spanAt, partOf, widthIn, registerAt, referenceAt}
 use Rattle.tokens.proofs.Tokens.{present, run-onward, token-inside}
@@ -86,11 +86,11 @@ unfolding ofDecimal
 of-decimal (Plain x q) v w p e = cc
 of-decimal Unread v w p e = never (cc)
 
-marks : (s : List ℕ) (at : ℕ) → eqb (getD s at 0) 39 ≡ true → constantAt s at ≡ markedAt Binary 2 1 16 s (at + 1)
+marks : (s : List ℕ) (at : ℕ) → eqb (getD s at 0) 39 ≡ true → constantAt s at ≡ markedAt Binary 2 1 binaryDigits s (at + 1)
 unfolding constantAt
 marks s at t = rw (t, constantAt)
 
-signs : (s : List ℕ) (at : ℕ) → eqb (getD s at 0) 39 ≡ false → eqb (getD s at 0) 35 ≡ true → constantAt s at ≡ markedAt Octal 8 3 5 s (at + 1)
+signs : (s : List ℕ) (at : ℕ) → eqb (getD s at 0) 39 ≡ false → eqb (getD s at 0) 35 ≡ true → constantAt s at ≡ markedAt Octal 8 3 octalDigits s (at + 1)
 unfolding constantAt
 signs s at t u = rw (t, u, constantAt)
 
@@ -103,13 +103,13 @@ constant-past s at v w p e =
     by-test (eqb (getD s at 0) 39)
     (λ t.
     let h : at < length s = present s at 39 (eqb-true (getD s at 0) 39 t) (omega arith) in
-    let q : Past s (at + 1) p = marked-past Binary 2 1 16 s (at + 1) v w p (omega arith) (sym (marks s at t) ∙ e) in
+    let q : Past s (at + 1) p = marked-past Binary 2 1 binaryDigits s (at + 1) v w p (omega arith) (sym (marks s at t) ∙ e) in
     omega arith)
     (λ t.
     by-test (eqb (getD s at 0) 35)
     (λ u.
     let h : at < length s = present s at 35 (eqb-true (getD s at 0) 35 u) (omega arith) in
-    let q : Past s (at + 1) p = marked-past Octal 8 3 5 s (at + 1) v w p (omega arith) (sym (signs s at t u) ∙ e) in
+    let q : Past s (at + 1) p = marked-past Octal 8 3 octalDigits s (at + 1) v w p (omega arith) (sym (signs s at t u) ∙ e) in
     omega arith)
     (λ u. decimal-past s at v p (of-decimal (decimalAt s at) v w p (sym (digits s at t u) ∙ e))))
 
@@ -299,7 +299,7 @@ row-small row k e h =
     (λ t. absurd (omega (arith, no-row row (borrow.Author.Tests.ltb-false row 10 t))))
 
 no-operator : (s : List ℕ) (at : ℕ) → length s ≤ skip s at → operatorAt s at ≡ 10
-unfolding operatorAt operatorRow placeIn Rattle.characters.specs.Characters.same
+unfolding operatorAt operatorRow findIn Rattle.characters.specs.Characters.same
 no-operator s at h = rw (lib.ListN.drop-of-length-le s h, lib.Seq.take-nil (tokenEnd s (skip s at) - skip s at))
 
 pub operator-past : (s : List ℕ) (at k : ℕ) → entryIn (operatorAt s at) .strength ≡ k → 0 < k → (operatorAt s at < 10) × Past s at (operatorEnd s at)

@@ -70,7 +70,7 @@ module _ (s : List ℕ) (close : ℕ) (c : Cursor) (w : ℕ) (now : List ℕ) wh
         grown = record { onward = omega (arith, onward Space s (c .place)); inside = omega arith; words-most = omega (arith, onward Space s (c .place)); pieces-most = omega (arith, onward Space s (c .place)); narrow = omega arith };
       }
 
-  pub round : eqb (next s (c .place)) close ≡ true → eqb close 93 ≡ false → skip s (c .place) < length s → w ≤ 16
+  pub round : eqb (next s (c .place)) close ≡ true → eqb close 93 ≡ false → skip s (c .place) < length s → w ≤ widest
       → Made (closed s close) s (c .place + 1) (c .words + 1) (c .pieces + 1) c w (Found (record { place = skip s (c .place) + 1; words = c .words; pieces = c .pieces }) w) now now
   round f g h l =
       record {
@@ -118,7 +118,7 @@ module _ (s : List ℕ) (row at : ℕ) (c : Cursor) (w : ℕ) (now : List ℕ) w
   pub large-count : (a b d : ℕ) (after : List ℕ) (n p : ℕ) → decimalAt s (skip s at) ≡ Plain n p → largestCount < n → Behind 0 turns s a b d c w Fault now after
   large-count a b d after n p e h = unturned a b d after (λ l. over-counted l n p e h)
 
-  pub rotates : (n p : ℕ) → decimalAt s (skip s at) ≡ Plain n p → n ≤ largestCount → row < 10 → w ≤ 16 → Past s at p → c .place < at
+  pub rotates : (n p : ℕ) → decimalAt s (skip s at) ≡ Plain n p → n ≤ largestCount → row < 10 → w ≤ widest → Past s at p → c .place < at
       → Behind 0 turns s (at + 1) (c .words + 2) (c .pieces + 2) c w (Found (behind c p 2) w) now (sets now (4 * c .words) ((4 + row) ∷ w ∷ n ∷ 0 ∷ []))
   unfolding codeOf
   rotates n p e h r l o i =

@@ -10,8 +10,10 @@ ghost use lib.ListN.{length, getD};
 ghost use mathlib.Core.Bool.{true};
 ghost use Rattle.characters.specs.Characters.{isWord};
 ghost use lib.Seq.{sets};
+ghost use Rattle.word.specs.Word.{widest};
 ghost use Rattle.names.specs.Names.{entries, places};
 ghost use Rattle.constants.specs.Constants.{constantAt, decimalAt};
+ghost use Rattle.operators.specs.Operators.{table};
 ghost use Rattle.tokens.specs.Tokens.{skip};
 ghost use Rattle.bit_parts.specs.References.{referenceAt};
 ghost use Rattle.code.specs.Readings.{ofConstant, ofReference, closed, turned, joined};
@@ -19,6 +21,12 @@ ghost use Rattle.code.specs.Met.{Single, Room, Leaf, Made, Behind, Combi
 
 // The places of the table of words: four for each of 1,024 pieces, and for each byte of a line of 200.
 pub const CODE_PLACES: usize = 4896;
+
+// "No width may pass 16"
+pub const WIDEST: u16 = 16;
+
+// "words of 12 bits"
+const WORD_BITS: u16 = 12;
 
 // "right side a decimal from 0 to 15"
 const LARGEST_COUNT: u16 = 15;
@@ -62,7 +70,7 @@ fn one_more(c: Cursor, place: usize) -> Cursor
 
 // A word of its own for what was read up to a place, unless that is wider than 16 bits.
 fn leaf_part(
-    code: &mut [u16; 4896],
+    code: &mut [u16; CODE_PLACES],
     c: Cursor,
     place: usize,
     width: u16,
@@ -74,7 +82,7 @@ fn leaf_part(
     requires { ⌜ c .words < capacity ⌝ ∗ ⌜ c .pieces < capacity ⌝ }
     ensures { λ r. ⌜ Single place width (kind ∷ x ∷ y ∷ z ∷ []) r c (now (code .entry)) (now (code .exit)) ⌝ }
 {
-    if width <= 16 {
+    if width <= WIDEST {
         emit(code, c.words, kind, x, y, z);
         Part::Found(one_more(c, place), width)
     } else {
@@ -138,7 +146,7 @@ pub fn closed_part(
     width: u16,
     close: u8,
 ) -> Part
-    requires { ⌜ c .place ≤ length (now s) ⌝ ∗ ⌜ c .words < capacity ⌝ ∗ ⌜ c .pieces < capacity ⌝ ∗ ⌜ width ≤ 16 ⌝ ∗ ⌜ 0 < close ⌝ }
+    requires { ⌜ c .place ≤ length (now s) ⌝ ∗ ⌜ c .words < capacity ⌝ ∗ ⌜ c .pieces < capacity ⌝ ∗ ⌜ width ≤ widest ⌝ ∗ ⌜ 0 < close ⌝ }
     ensures { λ r. ⌜ Made (closed (now (s .entry)) close) (now (s .entry)) (c .place + 1) (c .words + 1) (c .pieces + 1) c width r (now (code .entry)) (now (code .exit)) ⌝ }
 {
     let end = tokens::skip_spaces(s, c.place);
@@ -147,7 +155,7 @@ pub fn closed_part(
     }
     if close == b']' {
         emit(code, c.words, 3, 0, 0, 0);
-        Part::Found(one_more(c, end + 1), 12)
+        Part::Found(one_more(c, end + 1), WORD_BITS)
     } else {
         Part::Found(
             Cursor {
@@ -178,7 +186,7 @@ pub fn rotated_part(
     width: u16,
     at: usize,
 ) -> Part
-    requires { ⌜ Room (now s) c 0 ⌝ ∗ ⌜ row < 10 ⌝ ∗ ⌜ width ≤ 16 ⌝ ∗ ⌜ c .place < at ⌝ ∗ ⌜ at ≤ length (now s) ⌝ }
+    requires { ⌜ Room (now s) c 0 ⌝ ∗ ⌜ row < length table ⌝ ∗ ⌜ width ≤ widest ⌝ ∗ ⌜ c .place < at ⌝ ∗ ⌜ at ≤ length (now s) ⌝ }
     ensures { λ r. ⌜ Behind 0 (λ f l p. turned row l (decimalAt (now (s .entry)) (skip (now (s .entry)) at))) (now (s .entry)) (at + 1) (c .words + 2) (c .pieces + 2)
         c width r (now (code .entry)) (now (code .exit)) ⌝ }
 {
@@ -211,13 +219,13 @@ pub fn joined_part(
     right: Cursor,
     other: u16,
 ) -> Part
-    requires { ⌜ row < 10 ⌝ ∗ ⌜ width ≤ 16 ⌝ ∗ ⌜ other ≤ 16 ⌝ ∗ ⌜ right .words < capacity ⌝ ∗ ⌜ right .pieces < capacity ⌝ }
+    requires { ⌜ row < length table ⌝ ∗ ⌜ width ≤ widest ⌝ ∗ ⌜ other ≤ widest ⌝ ∗ ⌜ right .words < capacity ⌝ ∗ ⌜ right .pieces < capacity ⌝ }
     ensures { λ r. ⌜ Combined (joined row) left width right other r (now (code .entry)) (now (code .exit)) ⌝ }
 {
     let entry = operators::entry_in(row);
     let kind = entry.widths;
     let both = operators::width_by(kind, width, other);
-    if 16 < both {
+    if WIDEST < both {
         return Part::Fault;
     }
     emit(code, right.words, 4 + row as u16, width, other, 0);

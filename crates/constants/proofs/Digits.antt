@@ -10,7 +10,7 @@ use lib.Arith.{digits-lt}
 use lib.Pow.{pow-add, pow-mono}
 use lib.Dec.{eqb, leb, ltb}
 use lib.ListN.{length, getD, List·getD-eq-default}
-use borrow.Author.Tests.{leb-true}
+use borrow.Author.Tests.{leb-true, ltb-true}
 use Rattle.characters.specs.Characters.{isDigit, belongs, runEnd}
 use Rattle.constants.specs.Constants.{numberAt, shortestFrom, isPlain, largest, decimalAt, markedAt, ofDecimal, constantAt}
 use Rattle.word.specs.Word.{fits}
@@ -96,6 +96,13 @@ module _ (k : Class) (base size most : ℕ) (s : List ℕ) (at : ℕ) where
   pub unmarked : ltb at (runEnd k s at) && leb (runEnd k s at) (at + most) ≡ false → markedAt k base size most s at ≡ Missing
   unfolding markedAt
   unmarked t = rw (t, markedAt)
+
+-- how many digits stand behind a mark
+pub some-digits : (at r most : ℕ) → ltb at r && leb r (at + most) ≡ true → at < r
+some-digits at r most t = ltb-true at r (and-left (ltb at r) (leb r (at + most)) t)
+
+pub few-digits : (at r most : ℕ) → ltb at r && leb r (at + most) ≡ true → r ≤ at + most
+few-digits at r most t = leb-true r (at + most) (and-right (ltb at r) (leb r (at + most)) t)
 
 -- what stands behind a mark fits 16 bits
 pub marked-lt : (k : Class) (size : ℕ) → ((b : ℕ) → belongs k b ≡ true → b % 16 < 2 ^ size) → (s : List ℕ) (at r : ℕ)

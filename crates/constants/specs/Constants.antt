@@ -20,12 +20,22 @@ unfoldable pub numberAt : ℕ → List ℕ → ℕ → ℕ → ℕ → ℕ
 numberAt base s at zero v = v
 numberAt base s at (suc n) v = numberAt base s (at + 1) n (v * base + getD s at 0 % 16)
 
+-- the limits that the sentence above names; a decimal up to 32767 has at most 5 digits
+abbrev pub binaryDigits : ℕ
+binaryDigits = 16
+
+abbrev pub octalDigits : ℕ
+octalDigits = 5
+
+abbrev pub decimalDigits : ℕ
+decimalDigits = 5
+
 abbrev pub largest : ℕ
 largest = 32767
 
 -- whether the run from `at` to `end`, in which digits reach as far as `digits`, is a decimal "without leading zeros" that is not too long
 abbrev pub isPlain : ℕ → ℕ → ℕ → ℕ → Bool
-isPlain first at digits end = eqb digits end && leb end (at + 5) && (not (eqb first 48) || eqb end (at + 1))
+isPlain first at digits end = eqb digits end && leb end (at + decimalDigits) && (not (eqb first 48) || eqb end (at + 1))
 
 -- "a run of letters, digits and dots, is one token": a decimal is a whole run
 unfoldable pub decimalAt : List ℕ → ℕ → Number
@@ -64,7 +74,7 @@ ofDecimal Unread = Missing
 unfoldable pub constantAt : List ℕ → ℕ → Constant
 constantAt s at =
     elim (eqb (getD s at 0) 39) [
-      | true ↦ markedAt Binary 2 1 16 s (at + 1)
+      | true ↦ markedAt Binary 2 1 binaryDigits s (at + 1)
       | false ↦
-          elim (eqb (getD s at 0) 35) [ true ↦ markedAt Octal 8 3 5 s (at + 1) | false ↦ ofDecimal (decimalAt s at) ]
+          elim (eqb (getD s at 0) 35) [ true ↦ markedAt Octal 8 3 octalDigits s (at + 1) | false ↦ ofDecimal (decimalAt s at) ]
     ]

@@ -3,7 +3,16 @@ use characters::Class;
 ghost use mathlib.Core.Path.{_≡_};
 ghost use lib.ListN.{length};
 ghost use Prim.Native.Nat.{_+_, _-_, _*_, _≤_};
-ghost use Rattle.constants.specs.Constants.{numberAt, decimalAt, markedAt, shortest, constantAt, ofDecimal};
+ghost use Rattle.constants.specs.Constants.{binaryDigits, octalDigits, numberAt, decimalAt, markedAt, shortest, constantAt, ofDecimal};
+
+// "1 to 16 binary digits", "1 to 5 octal digits", "decimal 0 to 32767", which has at most 5 digits.
+const BINARY_DIGITS: usize = 16;
+
+const OCTAL_DIGITS: usize = 5;
+
+const DECIMAL_DIGITS: usize = 5;
+
+const LARGEST: u64 = 32767;
 
 // A decimal and the place after it, or that none is there.
 pub enum Number {
@@ -21,7 +30,7 @@ pub enum Constant {
     Missing,
 }
 
-// The number that n digits from a place stand for.
+// The number that n digits from a place stand for, at most 16: a digit takes up to four of 64 bits.
 pub fn digits_value(s: &[u8], at: usize, n: usize, base: u64) -> u64
     requires { ⌜ at + n ≤ length (now s) ⌝ ∗ ⌜ n ≤ 16 ⌝ ∗ ⌜ base ≤ 10 ⌝ }
     ensures { λ r. ⌜ r ≡ numberAt base (now (s .entry)) at n 0 ⌝ }
@@ -47,10 +56,10 @@ pub fn decimal_at(s: &[u8], at: usize) -> Number
     let first = s[at];
     let end = characters::run_end(s, at, Class::Word);
     let digits = characters::run_end(s, at, Class::Decimal);
-    let plain = (digits == end) & (end <= at + 5) & ((first != 48) | (end == at + 1));
+    let plain = (digits == end) & (end <= at + DECIMAL_DIGITS) & ((first != 48) | (end == at + 1));
     if characters::is_digit(first) & plain {
         let value = digits_value(s, at, end - at, 10);
-        if value <= 32767 {
+        if value <= LARGEST {
             return Number::Plain {
                 value: value as u16,
                 place: end,
@@ -63,10 +72,10 @@ pub fn decimal_at(s: &[u8], at: usize) -> Number
 // The binary constant whose digits begin at a place.
 fn binary_at(s: &[u8], at: usize) -> Constant
     requires { ⌜ at ≤ length (now s) ⌝ }
-    ensures { λ r. ⌜ r ≡ markedAt Class.Binary 2 1 16 (now (s .entry)) at ⌝ }
+    ensures { λ r. ⌜ r ≡ markedAt Class.Binary 2 1 binaryDigits (now (s .entry)) at ⌝ }
 {
     let end = characters::run_end(s, at, Class::Binary);
-    if (at < end) & (end <= at + 16) {
+    if (at < end) & (end <= at + BINARY_DIGITS) {
         Constant::Found {
             value: digits_value(s, at, end - at, 2) as u16,
             width: (end - at) as u16,
@@ -80,10 +89,10 @@ fn binary_at(s: &[u8], at: usize) -> Constant
 // The octal constant whose digits begin at a place.
 fn octal_at(s: &[u8], at: usize) -> Constant
     requires { ⌜ at ≤ length (now s) ⌝ }
-    ensures { λ r. ⌜ r ≡ markedAt Class.Octal 8 3 5 (now (s .entry)) at ⌝ }
+    ensures { λ r. ⌜ r ≡ markedAt Class.Octal 8 3 octalDigits (now (s .entry)) at ⌝ }
 {
     let end = characters::run_end(s, at, Class::Octal);
-    if (at < end) & (end <= at + 5) {
+    if (at < end) & (end <= at + OCTAL_DIGITS) {
         Constant::Found {
             value: digits_value(s, at, end - at, 8) as u16,
             width: (3 * (end - at)) as u16,

@@ -1,6 +1,7 @@
 // The lines that declare something: `reg` and `at`.
 use crate::faults::Fault;
 use crate::limits;
+use code::WIDEST;
 use constants::Number;
 use names::Dictionary;
 ghost use mathlib.Core.Path.{_≡_};
@@ -81,7 +82,7 @@ fn is_width(s: &[u8], n: Number) -> bool
     ensures { λ r. ⌜ r ≡ isWidth (now (s .entry)) n ⌝ }
 {
     match n {
-        Number::Plain { value, place } => { (1 <= value) & (value <= 16) & (place == s.len()) }
+        Number::Plain { value, place } => { (1 <= value) & (value <= WIDEST) & (place == s.len()) }
         Number::Unread => false,
     }
 }

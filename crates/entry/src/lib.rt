@@ -3,7 +3,7 @@ use characters::Class;
 use state::BUDGET_LIMIT;
 ghost use mathlib.Core.Path.{_≡_};
 ghost use Prim.Native.Nat.{_<_};
-ghost use lib.ListN.{getD};
+ghost use lib.ListN.{length, getD};
 ghost use Rattle.machine.specs.State.{widths};
 ghost use Rattle.names.specs.Names.{find};
 ghost use Rattle.entry.specs.Lines.{machineRegisters, isDigits, wordEntry, registerEntry, budgetEntry, said, entry};
@@ -49,7 +49,7 @@ fn word_entry(address: &[u8], word: &[u8]) -> Entry
 
 // A line with a machine register.
 fn register_entry(place: usize, value: &[u8]) -> Entry
-    requires { ⌜ place < 6 ⌝ }
+    requires { ⌜ place < length machineRegisters ⌝ }
     ensures { λ r. ⌜ r ≡ registerEntry place (getD widths place 0) (now (value .entry)) ⌝ }
 {
     let width = WIDTHS[place];

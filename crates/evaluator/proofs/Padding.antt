@@ -17,6 +17,7 @@ use Rattle.state.specs.declared.Verdict.the-variants.{Fit, Unfit}
 use Rattle.names.specs.declared.Dictionary.{Dictionary}
 use Rattle.characters.proofs.Tests.{by-test}
 use Rattle.evaluator.specs.Stored.{widthAt, widthsFrom, padded}
+use Rattle.value.specs.Fitting.{registerPlaces}
 
 from-length : (d : Dictionary) (n k : ℕ) → length (widthsFrom d k n) ≡ n
 unfolding widthsFrom
@@ -29,29 +30,29 @@ from-at d zero k i h = absurd (omega arith)
 from-at d (suc n) k zero h = ap (widthAt d) (sym (add-zero k))
 from-at d (suc n) k (suc i) h = from-at d n (suc k) i (omega arith) ∙ ap (widthAt d) {x = suc k + i} {y = k + suc i} (omega arith)
 
-pub padded-length : (d : Dictionary) → length (padded d) ≡ 16
-padded-length d = from-length d 16 0
+pub padded-length : (d : Dictionary) → length (padded d) ≡ registerPlaces
+padded-length d = from-length d registerPlaces 0
 
-pub padded-at : (d : Dictionary) (k : ℕ) → k < 16 → getD (padded d) k 0 ≡ widthAt d k
-padded-at d k h = from-at d 16 0 k h ∙ ap (widthAt d) (zero-add k)
+pub padded-at : (d : Dictionary) (k : ℕ) → k < registerPlaces → getD (padded d) k 0 ≡ widthAt d k
+padded-at d k h = from-at d registerPlaces 0 k h ∙ ap (widthAt d) (zero-add k)
 
-pub padded-past : (d : Dictionary) (k : ℕ) → 16 ≤ k → getD (padded d) k 0 ≡ 0
+pub padded-past : (d : Dictionary) (k : ℕ) → registerPlaces ≤ k → getD (padded d) k 0 ≡ 0
 padded-past d k h = List·getD-eq-default (padded d) 0 (omega (arith, padded-length d, h))
 
 pub padded-le : (d : Dictionary) (w : List ℕ) → w ≡ padded d → ((k : ℕ) → widthAt d k ≤ widest) → (k : ℕ) → getD w k 0 ≤ widest
 padded-le d w e h k =
     subst (λ (l : List ℕ). getD l k 0 ≤ widest) (sym e)
-    (by-test (ltb k 16)
-    (λ t. subst (λ (n : ℕ). n ≤ widest) (sym (padded-at d k (ltb-true k 16 t))) (h k))
-    (λ t. subst (λ (n : ℕ). n ≤ widest) (sym (padded-past d k (ltb-false k 16 t))) (omega arith)))
+    (by-test (ltb k registerPlaces)
+    (λ t. subst (λ (n : ℕ). n ≤ widest) (sym (padded-at d k (ltb-true k registerPlaces t))) (h k))
+    (λ t. subst (λ (n : ℕ). n ≤ widest) (sym (padded-past d k (ltb-false k registerPlaces t))) (omega arith)))
 
 -- the widths so far
 pub record Filled (d : Dictionary) (i : ℕ) (w : List ℕ) : Type 0 where
-  pub within : i ≤ 16
-  pub size : length w ≡ 16
+  pub within : i ≤ registerPlaces
+  pub size : length w ≡ registerPlaces
   pub are : (k : ℕ) → k < i → getD w k 0 ≡ widthAt d k
 
-pub filled-next : (d : Dictionary) (i : ℕ) (w : List ℕ) (x : ℕ) → Filled d i w → i < 16 → x ≡ widthAt d i → length (set w i x) ≡ 16 → Filled d (i + 1) (set w i x)
+pub filled-next : (d : Dictionary) (i : ℕ) (w : List ℕ) (x : ℕ) → Filled d i w → i < registerPlaces → x ≡ widthAt d i → length (set w i x) ≡ registerPlaces → Filled d (i + 1) (set w i x)
 filled-next d i w x f h e l =
     record {
       within = omega arith;
@@ -67,7 +68,7 @@ filled-next d i w x f h e l =
     below : (k : ℕ) → k < i + 1 → (k ≡ i → ⊥) → k < i
     below k q n = omega arith
 
-pub filled-end : (d : Dictionary) (i : ℕ) (w : List ℕ) → Filled d i w → 16 ≤ i → w ≡ padded d
+pub filled-end : (d : Dictionary) (i : ℕ) (w : List ℕ) → Filled d i w → registerPlaces ≤ i → w ≡ padded d
 filled-end d i w f h =
     ext-getD 0 w (padded d) (f .size ∙ sym (padded-length d)) (λ k q. f .are k (omega (arith, f .size)) ∙ sym (padded-at d k (omega (arith, f .size))))
 

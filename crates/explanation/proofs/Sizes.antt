@@ -13,13 +13,13 @@ use Rattle.page.proofs.Numbers.{octal-length}
 use Rattle.day_listing.specs.Listing.{endLine}
 use Rattle.day_listing.proofs.Sizes.{end-line}
 use Rattle.entry.specs.Lines.{machineRegisters}
-use Rattle.run_lines.specs.Registers.{registerLines}
+use Rattle.run_lines.specs.Registers.{registerLines, registerLinesBytes}
 
 pub end-size : (steps : ℕ) (why : Reason) → length (endLine steps why) ≤ 12 + length (decimal steps)
 end-size steps Halted = rw (end-line steps Halted) (simp length-append (omega arith))
 end-size steps Spent = rw (end-line steps Spent) (simp length-append (omega arith))
 
-pub registers-size : (m : Machine) → length (registerLines machineRegisters (values m)) ≡ 77
+pub registers-size : (m : Machine) → length (registerLines machineRegisters (values m)) ≡ registerLinesBytes
 registers-size m =
     let lac = octal-length 5 (m .lac) in
     let pc = octal-length 4 (m .pc) in

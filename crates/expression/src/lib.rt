@@ -8,6 +8,7 @@ use names::Dictionary;
 ghost use mathlib.Core.Path.{_≡_};
 ghost use Prim.Native.Nat.{_+_, _≤_};
 ghost use lib.ListN.{length};
+ghost use Rattle.word.specs.Word.{widest};
 ghost use Rattle.names.specs.Names.{entries, places};
 ghost use Rattle.expression.specs.Expression.{trimmed, expression, destination, memoryAt, ofName};
 ghost use Rattle.code.specs.Met.{Leaf, capacity};
@@ -45,7 +46,7 @@ fn is_trimmed(s: &[u8]) -> bool
 
 // What was read, if it ends with the field and has no more than 32 pieces.
 fn whole_part(s: &[u8], end: Cursor, width: u16, pieces: usize) -> Part
-    requires { ⌜ pieces ≤ capacity ⌝ ∗ ⌜ end .place ≤ length (now s) ⌝ ∗ ⌜ width ≤ 16 ⌝ }
+    requires { ⌜ pieces ≤ capacity ⌝ ∗ ⌜ end .place ≤ length (now s) ⌝ ∗ ⌜ width ≤ widest ⌝ }
     ensures { λ r. ⌜ Whole (now (s .entry)) end width pieces r ⌝ }
 {
     if (end.place == s.len()) & (end.pieces <= pieces + MOST_PIECES) {

@@ -9,6 +9,7 @@ ghost use mathlib.Core.Bool.{true};
 ghost use Prim.Native.Nat.{_+_, _-_, _≤_, _<_};
 ghost use lib.ListN.{getD};
 ghost use Rattle.characters.specs.Characters.{isLetter};
+ghost use Rattle.word.specs.Word.{widest};
 ghost use Rattle.names.specs.Names.{entries, places};
 ghost use Rattle.operators.specs.Operators.{strongest, entryIn};
 ghost use Rattle.tokens.specs.Tokens.{operatorAt};
@@ -56,7 +57,7 @@ fn read_more(
     left: Cursor,
     width: u16,
 ) -> Part
-    requires { ⌜ Room (now s) left 0 ⌝ ∗ ⌜ d .count ≤ places ⌝ ∗ ⌜ 1 ≤ strength ⌝ ∗ ⌜ strength < strongest ⌝ ∗ ⌜ width ≤ 16 ⌝ }
+    requires { ⌜ Room (now s) left 0 ⌝ ∗ ⌜ d .count ≤ places ⌝ ∗ ⌜ 1 ≤ strength ⌝ ∗ ⌜ strength < strongest ⌝ ∗ ⌜ width ≤ widest ⌝ }
     ensures { λ r. ⌜ Behind (calls (now (s .entry)) (left .place) 9)
         (λ f l p. more f (entries (now (text .entry)) d) (now (s .entry)) depth strength (read l p))
         (now (s .entry)) (left .place) (left .words) (left .pieces) left width r (now (code .entry)) (now (code .exit)) ⌝ }
@@ -82,7 +83,7 @@ fn read_operation(
     left: Cursor,
     width: u16,
 ) -> Part
-    requires { ⌜ Room (now s) left 0 ⌝ ∗ ⌜ d .count ≤ places ⌝ ∗ ⌜ (1 ≤ strength) × (strength < strongest) ⌝ ∗ ⌜ width ≤ 16 ⌝
+    requires { ⌜ Room (now s) left 0 ⌝ ∗ ⌜ d .count ≤ places ⌝ ∗ ⌜ (1 ≤ strength) × (strength < strongest) ⌝ ∗ ⌜ width ≤ widest ⌝
         ∗ ⌜ entryIn (operatorAt (now s) (left .place)) .strength ≡ strength ⌝ }
     ensures { λ r. ⌜ Behind (calls (now (s .entry)) (left .place) 8)
         (λ f l p. operation f (entries (now (text .entry)) d) (now (s .entry)) depth strength l p)

@@ -5,6 +5,9 @@ ghost use lib.ListN.{getD};
 ghost use Prim.Native.Nat.{_+_, _<_};
 ghost use Rattle.names.specs.Names.{places, isName, find, entries, none, Added};
 
+// "1 to 20 letters, digits or dots"
+const LONGEST_NAME: usize = 20;
+
 // How many names a dictionary can hold.
 pub const PLACES: usize = 32;
 
@@ -21,7 +24,7 @@ pub fn is_name(s: &[u8]) -> bool
     ensures { λ r. ⌜ r ≡ isName (now (s .entry)) ⌝ }
 {
     let end = characters::run_end(s, 0, Class::Word);
-    characters::is_letter(characters::byte(s, 0)) & (end == s.len()) & (s.len() <= 20)
+    characters::is_letter(characters::byte(s, 0)) & (end == s.len()) & (s.len() <= LONGEST_NAME)
 }
 
 // A dictionary without names.

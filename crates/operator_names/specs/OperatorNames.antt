@@ -4,11 +4,12 @@ use Prim.Native.Nat.{ℕ, suc}
 use mathlib.Core.Bool.{Bool, true, false, _||_}
 use mathlib.Core.List.{List, [], _∷_}
 use lib.Dec.{ltb}
+use lib.ListN.{length}
 use Rattle.characters.specs.Characters.{same}
 
 -- the operators' names, in the order of their table: Not, @, Slr, Srr, +, Eql, Neq, Lss, And, Or
-abbrev pub names : List (List ℕ)
-names =
+abbrev pub operatorNames : List (List ℕ)
+operatorNames =
     (78 ∷ 111 ∷ 116 ∷ [])
     ∷ (64 ∷ [])
     ∷ (83 ∷ 108 ∷ 114 ∷ [])
@@ -22,14 +23,14 @@ names =
     ∷ []
 
 -- the place of a name in a list, the list's length if it isn't there
-unfoldable pub placeIn : List (List ℕ) → List ℕ → ℕ
-placeIn [] s = 0
-placeIn (n ∷ ns) s = elim (same s n) [ true ↦ 0 | false ↦ suc (placeIn ns s) ]
+unfoldable pub findIn : List (List ℕ) → List ℕ → ℕ
+findIn [] s = 0
+findIn (n ∷ ns) s = elim (same s n) [ true ↦ 0 | false ↦ suc (findIn ns s) ]
 
--- the row of the operator that a token names; 10 if it names none
+-- the row of the operator that a token names; the row past the last if it names none
 unfoldable pub operatorRow : List ℕ → ℕ
-operatorRow s = placeIn names s
+operatorRow s = findIn operatorNames s
 
 -- "Reserved as register names: M, Not, Slr, Srr, Eql, Neq, Lss, And, Or"
 abbrev pub isReserved : List ℕ → Bool
-isReserved s = same s (77 ∷ []) || ltb (operatorRow s) 10
+isReserved s = same s (77 ∷ []) || ltb (operatorRow s) (length operatorNames)

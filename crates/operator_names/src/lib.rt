@@ -2,7 +2,10 @@
 ghost use mathlib.Core.Path.{_≡_};
 ghost use Rattle.operator_names.specs.OperatorNames.{operatorRow, isReserved};
 
-// The row of the operator that a token names, 10 if it names none.
+// How many operators there are: the row of none.
+const OPERATORS: usize = 10;
+
+// The row of the operator that a token names, the row past the last if it names none.
 pub fn operator_row(token: &[u8]) -> usize
     ensures { λ r. ⌜ r ≡ operatorRow (now (token .entry)) ⌝ }
 {
@@ -36,7 +39,7 @@ pub fn operator_row(token: &[u8]) -> usize
     if characters::is_same(token, b"Or") {
         9
     } else {
-        10
+        OPERATORS
     }
 }
 
@@ -44,5 +47,5 @@ pub fn operator_row(token: &[u8]) -> usize
 pub fn is_reserved(name: &[u8]) -> bool
     ensures { λ r. ⌜ r ≡ isReserved (now (name .entry)) ⌝ }
 {
-    characters::is_same(name, b"M") | (operator_row(name) < 10)
+    characters::is_same(name, b"M") | (operator_row(name) < OPERATORS)
 }

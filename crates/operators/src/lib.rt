@@ -1,6 +1,7 @@
 // The operators and their one table.
 ghost use mathlib.Core.Path.{_≡_};
 ghost use Prim.Native.Nat.{_≤_, max};
+ghost use Rattle.word.specs.Word.{widest};
 ghost use Rattle.operators.specs.Operators.{entryIn, widthBy};
 
 pub enum Operator {
@@ -32,8 +33,10 @@ pub struct Entry {
     pub widths: Widths,
 }
 
+const OPERATORS: usize = 10;
+
 // "The strengths of the operators are one fixed table."
-const TABLE: [Entry; 10] = [
+const TABLE: [Entry; OPERATORS] = [
     Entry {
         operator: Operator::Not,
         strength: 7,
@@ -90,7 +93,7 @@ const TABLE: [Entry; 10] = [
 pub fn entry_in(row: usize) -> Entry
     ensures { λ r. ⌜ r ≡ entryIn row ⌝ }
 {
-    if row < 10 {
+    if row < OPERATORS {
         TABLE[row]
     } else {
         Entry {
@@ -110,7 +113,7 @@ fn wider_of(left: u16, right: u16) -> u16
 
 // The width of an operator's value.
 pub fn width_by(widths: Widths, left: u16, right: u16) -> u16
-    requires { ⌜ left ≤ 16 ⌝ ∗ ⌜ right ≤ 16 ⌝ }
+    requires { ⌜ left ≤ widest ⌝ ∗ ⌜ right ≤ widest ⌝ }
     ensures { λ r. ⌜ r ≡ widthBy widths left right ⌝ }
 {
     match widths {

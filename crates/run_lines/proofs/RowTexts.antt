@@ -18,7 +18,7 @@ use Rattle.fields.proofs.Lines.{first-line}
 use Rattle.characters.proofs.Tests.{and-left, and-right}
 use Rattle.shipped.specs.Text.{shippedText}
 use Rattle.targets.specs.Targets.{isRow}
-use Rattle.run_lines.specs.Rows.{rowTexts, rowOf, rowLine, rowLines}
+use Rattle.run_lines.specs.Rows.{rowTexts, rowOf, rowLine, rowLines, rowLineBytes}
 
 -- ---- one line
 
@@ -64,7 +64,7 @@ shipped-within = refl
 pub row-size : (k : ℕ) → length (rowOf k shippedText) ≤ 50
 row-size k = each-within 50 (rowTexts (lines shippedText)) shipped-within (k - 1)
 
-pub row-line-size : (k : ℕ) → k < 256 → length (rowLine k) ≤ 55
+pub row-line-size : (k : ℕ) → k < 256 → length (rowLine k) ≤ rowLineBytes
 unfolding rowLine
 row-line-size k h = let short = decimal-length 2 k (omega arith) in let text = row-size k in simp length-append (omega arith)
 

@@ -15,6 +15,10 @@ registerLines [] vs = []
 registerLines (r ∷ rs) [] = []
 registerLines (r ∷ rs) (v ∷ vs) = registerLine r v ++ registerLines rs vs
 
+-- the bytes of the six lines
+abbrev pub registerLinesBytes : ℕ
+registerLinesBytes = 77
+
 -- the bytes of a page: the longest explanation has fewer, as the last line of a run, six of registers and 128 rows of at most 55 bytes
 abbrev pub pageBytes : ℕ
 pageBytes = 8192

@@ -27,7 +27,11 @@ unfoldable pub rowLines : List ℕ → List ℕ
 rowLines [] = []
 rowLines (k ∷ ks) = rowLine k ++ rowLines ks
 
--- the lines of n rows stand on the page from a place on, to the place `end`; none has more than 55 bytes
+-- the most bytes that a row's line has
+abbrev pub rowLineBytes : ℕ
+rowLineBytes = 55
+
+-- the lines of n rows stand on the page from a place on, to the place `end`, with room for each
 pub record Listed (text before : List ℕ) (at n : ℕ) (after : List ℕ) (end : ℕ) : Type 0 where
   pub written : Written text before at after end
-  pub room : end ≤ at + 55 * n
+  pub room : end ≤ at + rowLineBytes * n

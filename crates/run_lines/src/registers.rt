@@ -12,7 +12,7 @@ ghost use Rattle.machine.specs.State.{values};
 ghost use Rattle.page.specs.Text.{tab, lineFeed, octal};
 ghost use Rattle.page.specs.Written.{Written};
 ghost use Rattle.entry.specs.Lines.{machineRegisters};
-ghost use Rattle.run_lines.specs.Registers.{registerLines, pageBytes};
+ghost use Rattle.run_lines.specs.Registers.{registerLines, registerLinesBytes, pageBytes};
 
 // A register's line: its name, TAB, its value in n octal digits.
 fn put_register(page: &mut [u8; PAGE_BYTES], at: usize, name: &[u8], n: u64, value: u16) -> usize
@@ -26,7 +26,7 @@ fn put_register(page: &mut [u8; PAGE_BYTES], at: usize, name: &[u8], n: u64, val
 
 // The six registers.
 pub fn put_registers(page: &mut [u8; PAGE_BYTES], at: usize, m: Machine) -> usize
-    requires { ⌜ at + 77 ≤ pageBytes ⌝ }
+    requires { ⌜ at + registerLinesBytes ≤ pageBytes ⌝ }
     ensures { λ r. ⌜ Written (registerLines machineRegisters (values m)) (now (page .entry)) at (now (page .exit)) r ⌝ }
 {
     let pc = put_register(page, at, b"LAC", 5, m.lac);

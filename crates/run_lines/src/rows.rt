@@ -13,7 +13,7 @@ ghost use Rattle.word.specs.Choice.{pick};
 ghost use Rattle.page.specs.Written.{Written};
 ghost use Rattle.shipped.specs.Text.{shippedText};
 ghost use Rattle.targets.specs.Targets.{isRow};
-ghost use Rattle.run_lines.specs.Rows.{rowOf, rowLine, rowLines, Listed};
+ghost use Rattle.run_lines.specs.Rows.{rowOf, rowLine, rowLines, rowLineBytes, Listed};
 ghost use Rattle.run_lines.specs.Registers.{pageBytes};
 
 // Whether a line is a row.
@@ -59,7 +59,7 @@ fn row_of(text: &[u8], k: usize) -> &[u8]
 
 // The line of row k.
 fn put_row(page: &mut [u8; PAGE_BYTES], at: usize, text: &[u8; DESCRIPTION_BYTES], k: u8) -> usize
-    requires { ⌜ now text ≡ shippedText ⌝ ∗ ⌜ at + 55 ≤ pageBytes ⌝ }
+    requires { ⌜ now text ≡ shippedText ⌝ ∗ ⌜ at + rowLineBytes ≤ pageBytes ⌝ }
     ensures { λ r. ⌜ Written (rowLine k) (now (page .entry)) at (now (page .exit)) r ⌝ }
 {
     let tab = put_decimal(page, at, k as u64);
@@ -70,7 +70,7 @@ fn put_row(page: &mut [u8; PAGE_BYTES], at: usize, text: &[u8; DESCRIPTION_BYTES
 
 // The lines of the first n rows of a list, and the room that they take.
 pub fn put_rows(page: &mut [u8; PAGE_BYTES], at: usize, rows: &[u8], n: usize) -> usize
-    requires { ⌜ n ≤ length (now rows) ⌝ ∗ ⌜ at + 55 * n ≤ pageBytes ⌝ }
+    requires { ⌜ n ≤ length (now rows) ⌝ ∗ ⌜ at + rowLineBytes * n ≤ pageBytes ⌝ }
     ensures { λ r. ⌜ Listed (rowLines (take n (now (rows .entry)))) (now (page .entry)) at n (now (page .exit)) r ⌝ }
 {
     let text = shipped::shipped_text();

@@ -9,7 +9,7 @@ use Rattle.characters.specs.Characters.{run, runEnd, same}
 use Rattle.constants.specs.Constants.{numberAt, decimalAt, markedAt, shortestFrom, ofDecimal, constantAt}
 use Rattle.fields.specs.Fields.{lines, field, hasFields}
 use Rattle.names.specs.Names.{isName, find}
-use Rattle.operator_names.specs.OperatorNames.{placeIn, operatorRow}
+use Rattle.operator_names.specs.OperatorNames.{findIn, operatorRow}
 use Rattle.tokens.specs.Tokens.{tokenEnd, operatorAt, operatorEnd}
 use Rattle.bit_parts.specs.References.{secondBit, firstBit, spanAt, partOf, registerAt, referenceAt}
 use Rattle.code.specs.Readings.{limited, ofReference, ofConstant, notOf, closed, turned, joined}
@@ -27,7 +27,7 @@ use Rattle.shipped.specs.Shipped.{mostShippedRows, shipped}
 use Rattle.shipped.specs.Claim.{machinePart}
 
 pub shipped-accepted : readText shippedText ≡ accepted shipped
-unfolding run runEnd same numberAt decimalAt markedAt shortestFrom ofDecimal constantAt lines field hasFields isName find placeIn operatorRow tokenEnd operatorAt operatorEnd secondBit firstBit spanAt partOf registerAt referenceAt limited ofReference ofConstant notOf closed turned joined level whole expression ofName ofAddress memoryAt destination addRegister regLine addRow doRow withRow doLine passes goRow goLine addLabel atLine readLine finished readLines readText shippedText
+unfolding run runEnd same numberAt decimalAt markedAt shortestFrom ofDecimal constantAt lines field hasFields isName find findIn operatorRow tokenEnd operatorAt operatorEnd secondBit firstBit spanAt partOf registerAt referenceAt limited ofReference ofConstant notOf closed turned joined level whole expression ofName ofAddress memoryAt destination addRegister regLine addRow doRow withRow doLine passes goRow goLine addLabel atLine readLine finished readLines readText shippedText
 shipped-accepted = refl
 
 -- "Machine registers, in this order, which begins the shipped description too"

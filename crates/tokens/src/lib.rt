@@ -24,7 +24,7 @@ fn token_end(s: &[u8], at: usize) -> usize
     }
 }
 
-// The table's row of the operator that stands next, 10 if none does.
+// The table's row of the operator that stands next, the row past the last if none does.
 pub fn operator_at(s: &[u8], at: usize) -> usize
     requires { ⌜ at ≤ length (now s) ⌝ }
     ensures { λ r. ⌜ r ≡ operatorAt (now (s .entry)) at ⌝ }

@@ -7,7 +7,7 @@ use borrow.Author.Tests.{leb-true, le-leb, lt-leb}
 use lib.Dec.{eqb, leb}
 use lib.ListN.{getD}
 use Rattle.characters.specs.Characters.{runEnd}
-use Rattle.constants.specs.Constants.{numberAt, largest, isPlain}
+use Rattle.constants.specs.Constants.{numberAt, decimalDigits, largest, isPlain}
 use Rattle.characters.specs.declared.Class.the-variants.{Word}
 use Rattle.characters.proofs.Runs.{after-start, before-end}
 use Rattle.constants.proofs.Digits.{plain, too-large, not-plain, decimal-past}
@@ -16,11 +16,11 @@ use borrow.Author.Needs.{needs}
 use Rattle.constants.proofs.decimal_at.Statement.{statement}
 use Rattle.constants.proofs.decimal_at.Tie as tie
 
-upper : (d : Bool) (at digits end first : ℕ) → d && isPlain first at digits end ≡ true → end ≤ at + 5
+upper : (d : Bool) (at digits end first : ℕ) → d && isPlain first at digits end ≡ true → end ≤ at + decimalDigits
 upper d at digits end first t =
-    leb-true end (at + 5)
-    (and-right (eqb digits end) (leb end (at + 5))
-    (and-left (eqb digits end && leb end (at + 5)) (not (eqb first 48) || eqb end (at + 1)) (and-right d (isPlain first at digits end) t)))
+    leb-true end (at + decimalDigits)
+    (and-right (eqb digits end) (leb end (at + decimalDigits))
+    (and-left (eqb digits end && leb end (at + decimalDigits)) (not (eqb first 48) || eqb end (at + 1)) (and-right d (isPlain first at digits end) t)))
 
 returns : tie.Need-returns
 returns c =

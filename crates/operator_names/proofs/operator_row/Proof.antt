@@ -4,23 +4,23 @@ use mathlib.Core.Bool.{true, false}
 use mathlib.Core.List.{List, [], _∷_}
 use Prim.Native.Nat.{ℕ, suc}
 use Rattle.characters.specs.Characters.{same}
-use Rattle.operator_names.specs.OperatorNames.{placeIn, operatorRow}
+use Rattle.operator_names.specs.OperatorNames.{findIn, operatorRow}
 use borrow.Author.Needs.{needs}
 use Rattle.operator_names.proofs.operator_row.Statement.{statement}
 use Rattle.operator_names.proofs.operator_row.Tie as tie
 
 -- a token that is the first of the names, and one that isn't
 module _ (s n : List ℕ) (ns : List (List ℕ)) where
-  here : same s n ≡ true → placeIn (n ∷ ns) s ≡ 0
-  unfolding placeIn
-  here e = rw (e, placeIn)
+  here : same s n ≡ true → findIn (n ∷ ns) s ≡ 0
+  unfolding findIn
+  here e = rw (e, findIn)
 
-  past : (i : ℕ) → same s n ≡ false → placeIn ns s ≡ i → placeIn (n ∷ ns) s ≡ suc i
-  unfolding placeIn
-  past i e f = rw (e, placeIn) (ap suc f)
+  past : (i : ℕ) → same s n ≡ false → findIn ns s ≡ i → findIn (n ∷ ns) s ≡ suc i
+  unfolding findIn
+  past i e f = rw (e, findIn) (ap suc f)
 
-gone : (s : List ℕ) → placeIn [] s ≡ 0
-unfolding placeIn
+gone : (s : List ℕ) → findIn [] s ≡ 0
+unfolding findIn
 gone s = refl
 
 slice-aggregate-is-same : tie.Need-slice-aggregate-is-same

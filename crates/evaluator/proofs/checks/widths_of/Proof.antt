@@ -7,6 +7,7 @@ use Rattle.evaluator.proofs.Padding.{Filled, filled-next, filled-end}
 use borrow.Author.Needs.{needs}
 use Rattle.evaluator.proofs.checks.widths_of.Statement.{statement}
 use Rattle.evaluator.proofs.checks.widths_of.Tie as tie
+use Rattle.value.specs.Fitting.{registerPlaces}
 
 abbrev Inv-loop : tie.InvT-loop
 Inv-loop d w₀ i₀ w i =
@@ -14,7 +15,7 @@ Inv-loop d w₀ i₀ w i =
 
 abbrev μ-loop : tie.MeasureT-loop
 μ-loop d w₀ i₀ w i =
-    16 - i
+    registerPlaces - i
 
 loop-holds : tie.Need-loop-holds Inv-loop μ-loop
 loop-holds c =

@@ -6,13 +6,13 @@ use Prim.Native.Nat.{_+_, _-_, _*_, _≤_}
 use lib.ListN.{take, getD}
 use Rattle.page.specs.Written.{Written}
 use Rattle.page.proofs.Writing.{written-none, written-then}
-use Rattle.run_lines.specs.Rows.{rowLines}
+use Rattle.run_lines.specs.Rows.{rowLines, rowLineBytes}
 use Rattle.run_lines.proofs.RowTexts.{row-line-size, rows-more}
 use Rattle.run_lines.proofs.rows.put_rows.Statement.{statement}
 use Rattle.run_lines.proofs.rows.put_rows.Tie as tie
 
 abbrev Inv-loop : tie.InvT-loop
-Inv-loop page₀ at rows n text end₀ i₀ page end i = (i ≤ n) × (end ≤ at + 55 * i) × Written (rowLines (take i rows)) page₀ at page end
+Inv-loop page₀ at rows n text end₀ i₀ page end i = (i ≤ n) × (end ≤ at + rowLineBytes * i) × Written (rowLines (take i rows)) page₀ at page end
 
 abbrev μ-loop : tie.MeasureT-loop
 μ-loop page₀ at rows n text end₀ i₀ page end i = n - i

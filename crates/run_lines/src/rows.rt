@@ -12,17 +12,8 @@ ghost use lib.ListN.{length, take};
 ghost use Rattle.word.specs.Choice.{pick};
 ghost use Rattle.page.specs.Written.{Written};
 ghost use Rattle.shipped.specs.Text.{shippedText};
-ghost use Rattle.targets.specs.Targets.{isRow};
 ghost use Rattle.run_lines.specs.Rows.{rowOf, rowLine, rowLines, rowLineBytes, Listed};
 ghost use Rattle.run_lines.specs.Registers.{pageBytes};
-
-// Whether a line is a row.
-fn is_row(line: &[u8]) -> bool
-    ensures { λ r. ⌜ r ≡ isRow (now (line .entry)) ⌝ }
-{
-    let word = fields::field_of(line, 0);
-    characters::is_same(word, b"do") | characters::is_same(word, b"go")
-}
 
 // The number before k, and 0 before 0.
 fn before(k: usize) -> usize
@@ -46,7 +37,7 @@ fn row_of(text: &[u8], k: usize) -> &[u8]
     let mut left = before(k);
     while 0 < rest.len() {
         let line = fields::part_before(rest, LINE_FEED);
-        let row = is_row(line);
+        let row = targets::is_row(line);
         if row & (left == 0) {
             return line;
         }

@@ -1,4 +1,4 @@
--- Where a `go` leads: the rows down to its label.
+-- Which lines are rows, and where a `go` leads: the rows down to its label.
 -- Assumes nothing.
 use Prim.Native.Nat.{ℕ, _+_}
 use mathlib.Core.Bool.{Bool, true, false, _&&_, _||_}
@@ -10,10 +10,11 @@ use Rattle.targets.specs.declared.Target.{Target}
 use Rattle.targets.specs.declared.Target.the-variants.{Passes, Missing}
 use Rattle.declaration.specs.Lines.{doWord, goWord, atWord}
 
--- whether a line is the `at` line of a label, and whether it is a row
+-- whether a line is the `at` line of a label
 abbrev pub isAt : List ℕ → List ℕ → Bool
 isAt label s = same (field 0 s) atWord && same (field 1 s) label
 
+-- "`do` and `go` lines are rows"
 abbrev pub isRow : List ℕ → Bool
 isRow s = same (field 0 s) doWord || same (field 0 s) goWord
 

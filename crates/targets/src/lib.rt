@@ -1,4 +1,4 @@
-// Where a `go` leads.
+// Which lines are rows, and where a `go` leads.
 use fields::LINE_FEED;
 ghost use mathlib.Core.Path.{_≡_};
 ghost use Prim.Native.Nat.{_≤_};
@@ -22,7 +22,7 @@ fn is_at(line: &[u8], label: &[u8]) -> bool
 }
 
 // Whether a line is a row.
-fn is_row(line: &[u8]) -> bool
+pub fn is_row(line: &[u8]) -> bool
     ensures { λ r. ⌜ r ≡ isRow (now (line .entry)) ⌝ }
 {
     let first = fields::field_of(line, 0);

@@ -3,7 +3,7 @@
 use mathlib.Core.Path.{_≡_, refl, sym, ap, subst, _∙_}
 use mathlib.Core.Bool.{Bool, true, false}
 use mathlib.Core.List.{List, [], _∷_, _++_}
-use Prim.Native.Nat.{ℕ, zero, suc, _+_, _*_, _%_, _≤_, _<_}
+use Prim.Native.Nat.{ℕ, zero, suc, _*_, _%_, _≤_, _<_}
 use native.Mathlib.Nat.{mod-eq-of-lt}
 use native.Mathlib.Omega.{arith}
 use lib.Dec.{eqb, ltb}
@@ -19,10 +19,10 @@ use Rattle.state.specs.Checks.{firstUnfit, checkMemory, checkRegisters, checkBu
 use Rattle.state.specs.declared.Reason.{Reason}
 use Rattle.state.specs.declared.Reason.the-variants.{Halted, Spent}
 use Rattle.state.specs.declared.Refusal.{Refusal}
-use Rattle.state.specs.declared.Refusal.the-variants.{Register, RowList}
+use Rattle.state.specs.declared.Refusal.the-variants.{Register}
 use Rattle.state.specs.declared.Verdict.{Verdict}
 use Rattle.state.specs.declared.Verdict.the-variants.{Fit, Unfit}
-use Rattle.state.proofs.Accepted.{memory-acceptable, registers-fitting, both-fit}
+use Rattle.state.proofs.Accepted.{memory-acceptable, registers-fitting, row-list-long, both-fit}
 use Rattle.names.specs.Names.{Named, entries, find}
 use Rattle.names.specs.declared.Dictionary.{Dictionary}
 use Rattle.characters.proofs.Tests.{by-test, and-left}
@@ -87,13 +87,13 @@ module _ (text : List ℕ) (names : Dictionary) (d : Description) (are : d .regi
 
   same-width : (k : ℕ) → getD (padded names) k 0 ≡ getD (widthsOf d) k 0
   same-width k =
-      by-test (ltb k 16)
+      by-test (ltb k registerPlaces)
       (λ t.
-      padded-at names k (ltb-true k 16 t)
+      padded-at names k (ltb-true k registerPlaces t)
       ∙ by-test (ltb k (names .count))
       (λ u. ap (λ (b : Bool). pick b (getD (names .numbers) k 0) 0) u ∙ sym (width-told k (ltb-true k (names .count) u)) ∙ sym (list-at k))
       (λ u. ap (λ (b : Bool). pick b (getD (names .numbers) k 0) 0) u ∙ sym (none-past k (omega (arith, count-is, ltb-false k (names .count) u))) ∙ sym (list-at k)))
-      (λ t. padded-past names k (ltb-false k 16 t) ∙ sym (none-past k (omega (arith, formed .few-registers, ltb-false k 16 t))) ∙ sym (list-at k))
+      (λ t. padded-past names k (ltb-false k registerPlaces t) ∙ sym (none-past k (omega (arith, formed .few-registers, ltb-false k registerPlaces t))) ∙ sym (list-at k))
 
   pub checked : (registers memory : List ℕ) (budget : ℕ) (list : List ℕ)
       → orElse (checkPadded names registers memory budget) (checkRowList (length list)) ≡ check d registers memory budget list
@@ -101,7 +101,7 @@ module _ (text : List ℕ) (names : Dictionary) (d : Description) (are : d .regi
       ap (λ (v : Verdict). orElse v (checkRowList (length list))) (state-ext (padded names) (widthsOf d) same-width registers memory budget)
 
   -- RUN's place
-  run-below : find runName (d .registers) < 16
+  run-below : find runName (d .registers) < registerPlaces
   run-below =
       let h = ltb-true (find runName (d .registers)) (length (d .registers)) (and-left (ltb (find runName (d .registers)) (length (d .registers))) (eqb (widthIn (d .registers) (find runName (d .registers))) 1) (formed .has-run)) in
       omega (arith, h, formed .few-registers)
@@ -109,13 +109,9 @@ module _ (text : List ℕ) (names : Dictionary) (d : Description) (are : d .regi
   pub run-read : (place : ℕ) → place ≡ find runName (entries text names) → (s : State) → runAt place s ≡ running d s
   run-read place e s =
       let i = e ∙ ap (find runName) (sym are) in
-      ap (λ (k : ℕ). getD (s .registers) k 0) (ap (λ (k : ℕ). k % 16) i ∙ mod-eq-of-lt run-below)
+      ap (λ (k : ℕ). getD (s .registers) k 0) (ap (λ (k : ℕ). k % registerPlaces) i ∙ mod-eq-of-lt run-below)
 
 -- what passes the checks
-roomy : (b : Bool) → pick b (Unfit RowList) Fit ≡ Fit → b ≡ false
-roomy true e = let z : _≡_ {A = ℕ} 0 1 = cc in absurd (omega arith)
-roomy false e = refl
-
 module _ (d : Description) (registers memory : List ℕ) (budget : ℕ) (list : List ℕ) (e : check d registers memory budget list ≡ Fit) where
   pub check-fits : length registers ≡ registerPlaces → fitting.Fit (d .registers) (record { registers = registers; memory = memory })
   check-fits places =
@@ -127,7 +123,7 @@ module _ (d : Description) (registers memory : List ℕ) (budget : ℕ) (list : 
   pub check-room : rowPlaces ≤ length list
   check-room =
       let outer = both-fit (checkState (widthsOf d) registers memory budget) (checkRowList (length list)) e in
-      ltb-false (length list) rowPlaces (roomy (ltb (length list) rowPlaces) (outer .1))
+      row-list-long (length list) (outer .1)
 
 -- the run over the tables is the run of the rows
 module _ (d : Description) (formed : Formed d) (code table : List ℕ) (count place : ℕ)

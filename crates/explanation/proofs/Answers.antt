@@ -9,16 +9,16 @@ use lib.Seq.{take-append-seam}
 use lib.Pow.{pow-pos}
 use Rattle.word.specs.Choice.{on, choose}
 use Rattle.state.specs.Limits.{rowPlaces}
-use Rattle.state.specs.Refusals.{numberOf, orElse}
+use Rattle.state.specs.Refusals.{orElse}
 use Rattle.state.specs.Checks.{checkMemory, checkRegisters, checkBudget, checkState}
 use Rattle.state.specs.Acceptable.{Fitting}
 use Rattle.state.specs.declared.Reason.{Reason}
 use Rattle.state.specs.declared.Reason.the-variants.{Halted, Spent}
 use Rattle.state.specs.declared.Refusal.{Refusal}
-use Rattle.state.specs.declared.Refusal.the-variants.{MemoryLength, Word, Register, Budget, RowList}
 use Rattle.state.specs.declared.Verdict.{Verdict}
 use Rattle.state.specs.declared.Verdict.the-variants.{Fit, Unfit}
 use Rattle.state.proofs.Accepted.{memory-acceptable, registers-fitting, budget-within, both-fit}
+use Rattle.state.proofs.Numbers.{numbered}
 use Rattle.machine.specs.declared.Machine.{Machine}
 use Rattle.machine.specs.State.{State, widths, values, start, registers}
 use Rattle.pdp8.specs.Step.{step}
@@ -42,14 +42,6 @@ use Rattle.shipped.proofs.Agree.{runs-agree}
 use Rattle.run_lines.specs.Registers.{registerLines}
 use Rattle.run_lines.specs.Rows.{rowLines}
 use Rattle.explanation.specs.Explanation.{placesOf, told, explained, checkedBy, answered, listedIn}
-
--- no refusal has the number 0
-numbered : (why : Refusal) → numberOf why ≡ 0 → ⊥
-numbered MemoryLength e = omega arith
-numbered (Word place) e = omega arith
-numbered (Register place) e = omega arith
-numbered Budget e = omega arith
-numbered RowList e = omega arith
 
 -- a run's reason goes by RUN at its end
 reason-from : (left done : ℕ) (s : State) → runFrom left done s .reason ≡ reasonOf (runFrom left done s .state)

@@ -10,7 +10,7 @@ use lib.Dec.{eqb, ltb, leb·suc-suc}
 use lib.ListN.{length, take, drop, length-take}
 use borrow.Author.Tests.{lt-ltb}
 use Rattle.characters.specs.Characters.{run}
-use Rattle.fields.specs.Fields.{tab, lineFeed, until, before, after, Line, push, lines, firstLine, field, hasFields}
+use Rattle.fields.specs.Fields.{tab, lineFeed, until, before, after, push, lines, firstLine, field, hasFields}
 use Rattle.characters.specs.declared.Class.the-variants.{Other}
 use Rattle.characters.proofs.Runs.{run-le, run-more, run-none}
 use Rattle.characters.proofs.Tests.{by-test}

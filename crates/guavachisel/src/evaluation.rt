@@ -3,7 +3,6 @@ use crate::numbers;
 use crate::reading;
 use evaluator::Outcome;
 use turn::Registers;
-ghost use mathlib.Core.Path.{_≡_};
 ghost use Rattle.guavachisel.specs.Evaluation.{Evaluated};
 
 // Runs a caller's description on the caller's memory and registers.

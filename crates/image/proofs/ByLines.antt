@@ -1,7 +1,7 @@
 -- The scanner comes to what the definition says by lines.
 -- Assumes nothing.
 use mathlib.Core.Path.{_≡_, refl, sym, ap, _∙_, subst}
-use mathlib.Core.Bool.{Bool, true, false, not}
+use mathlib.Core.Bool.{Bool, true, false}
 use mathlib.Core.List.{List, [], _∷_, _++_}
 use Prim.Native.Nat.{ℕ, suc, _+_, _^_, _≤_, _<_}
 use native.Mathlib.Nat.{mod-eq-of-lt, not-suc-le-zero}
@@ -10,8 +10,9 @@ use native.Mathlib.Decide.{decLt}
 use native.Mathlib.Omega.{arith}
 use lib.ListN.{length, take, drop, set, length-append, drop-of-length-le}
 use lib.Seq.{take-all, take-append-le, drop-append-le, append-snoc}
-use borrow.Author.Tests.{lt-ltb, le-ltb, ne-eqb, eqb-true}
+use borrow.Author.Tests.{lt-ltb, le-ltb, eqb-true}
 use Rattle.word.specs.Choice.{on, pick}
+use Rattle.word.proofs.Choice.{on-some}
 use Rattle.page.specs.Text.{lineFeed}
 use Rattle.image.specs.Input.{linesOf, form, formed, fit, addressOf, wordOf, clear, loaded, firstUnfit}
 use Rattle.image.specs.Pass.{pass, Countable}
@@ -113,16 +114,13 @@ Agrees text =
     (n : ℕ) (p memory : List ℕ) → formed 0 p ≡ true → length p ≤ 9 → 0 < n → n + (length p + length text) ≤ 2 ^ 64
     → Holds n (linesOf (p ++ text)) memory (pass scanByte (inLine n p memory) text)
 
-is-on : (n : ℕ) → 0 < n → on n ≡ true
-is-on n h = ap not (ne-eqb n 0 (λ q. omega arith))
-
 -- at the end of the text no line may have begun
 at-end : Agrees []
 unfolding pass linesOf firstUnfit loaded
 at-end n [] memory e h k q = record { unfit = refl; loads = λ z. refl }
 at-end n (b ∷ p) memory e h k q =
     let one : linesOf ((b ∷ p) ++ []) ≡ (b ∷ p) ∷ [] = cut-before 0 (b ∷ p) [] e (omega arith) ∙ pushes-none b p in
-    let begun : unfitLine (inLine n (b ∷ p) memory .scanner) ≡ n = ap (λ (t : Bool). pick t n 0) (is-on (suc (length p)) (omega arith)) in
+    let begun : unfitLine (inLine n (b ∷ p) memory .scanner) ≡ n = ap (λ (t : Bool). pick t n 0) (on-some (suc (length p)) (omega arith)) in
     rw one (unfit-first n (b ∷ p) memory [] _ k (fit-short (b ∷ p) h) begun)
 
 module _ (b : ℕ) (text : List ℕ) (n : ℕ) (p memory : List ℕ) (e : formed 0 p ≡ true) (h : length p ≤ 9) (k : 0 < n)
@@ -138,8 +136,8 @@ module _ (b : ℕ) (text : List ℕ) (n : ℕ) (p memory : List ℕ) (e : formed
       cut-before 0 p (b ∷ text) e (omega arith) ∙ ap (pushes p) (line .is) ∙ pushes-some p _ _ in
       let stopped = held (refusing (inLine n p memory .scanner)) memory in
       let stop : scanByte (inLine n p memory) b ≡ stopped = rw (f, scanByte) in
-      let number : unfitLine (stopped .scanner) ≡ n = ap (λ (t : Bool). pick t n (pick (on (length p)) n 0)) (is-on n k) in
-      rw (stop, stays _ text (is-on n k), cut)
+      let number : unfitLine (stopped .scanner) ≡ n = ap (λ (t : Bool). pick t n (pick (on (length p)) n 0)) (on-some n k) in
+      rw (stop, stays _ text (on-some n k), cut)
       (unfit-first n (p ++ b ∷ line .rest) memory (line .later) stopped k (fit-broken p b (line .rest) e f) number)
 
   inside : Agrees text → form (length p) b ≡ true → length p < 9 → Step

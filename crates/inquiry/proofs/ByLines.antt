@@ -1,7 +1,7 @@
 -- The scanner comes to what the definition says by lines.
 -- Assumes nothing.
 use mathlib.Core.Path.{_≡_, refl, sym, ap, _∙_, subst}
-use mathlib.Core.Bool.{Bool, true, false, not, false≢true}
+use mathlib.Core.Bool.{Bool, true, false, false≢true}
 use mathlib.Core.List.{List, [], _∷_, _++_}
 use Prim.Native.Nat.{ℕ, suc, _+_, _^_, _≤_, _<_}
 use native.Mathlib.Nat.{mod-eq-of-lt, not-suc-le-zero}
@@ -10,16 +10,15 @@ use native.Mathlib.Decide.{decLt}
 use native.Mathlib.Omega.{arith}
 use lib.Dec.{eqb}
 use lib.ListN.{length, length-append}
-use borrow.Author.Tests.{ne-eqb}
 use Rattle.word.specs.Choice.{on, pick}
+use Rattle.word.proofs.Choice.{on-some}
 use Rattle.image.specs.Pass.{pass, nextLine, Countable}
 use Rattle.characters.specs.Characters.{run}
 use Rattle.fields.specs.Fields.{lineFeed, Line, push, lines, hasFields}
 use Rattle.characters.proofs.Tests.{by-test}
-use Rattle.entry.specs.Lines.{entry, isUnfit}
+use Rattle.entry.specs.Lines.{entry, isUnfit, lineBytes}
 use Rattle.inquiry.specs.Input.{Inquiry, ready, lineEntry, entered, asked, firstUnfit}
-use Rattle.entry.specs.Lines.{lineBytes}
-use Rattle.inquiry.specs.Scan.{Scan, refusing, scanByte, begun, scanOf, unfitLine}
+use Rattle.inquiry.specs.Scan.{Scan, refusing, scanByte, scanOf, unfitLine}
 use Rattle.inquiry.proofs.Scanning.{ends-unfit, ends-fit, stays, at-feed, within, too-long}
 use Rattle.entry.proofs.Short.{long-unfit}
 
@@ -68,9 +67,6 @@ pub record Holds (n : ℕ) (ls : List Line) (q : Inquiry) (s : Scan) : Type 0 wh
 abbrev inLine : ℕ → List ℕ → Inquiry → Scan
 inLine n part q = record { line = n; part = part; refused = 0; inquiry = q }
 
-is-on : (n : ℕ) → 0 < n → on n ≡ true
-is-on n h = ap not (ne-eqb n 0 (λ q. omega arith))
-
 unfit-first : (n : ℕ) (l : Line) (ls : List Line) (q : Inquiry) (s : Scan) → 0 < n → isUnfit (lineEntry l) ≡ true → unfitLine s ≡ n → Holds n (l ∷ ls) q s
 unfolding firstUnfit
 unfit-first n l ls q s h e u =
@@ -91,7 +87,7 @@ refused-stays s [] e = refl
 refused-stays s (b ∷ text) e = rw (stays s b e) (refused-stays s text e)
 
 refused-number : (n : ℕ) (part : List ℕ) (q : Inquiry) → 0 < n → unfitLine (refusing (inLine n part q)) ≡ n
-refused-number n part q h = ap (λ (t : Bool). pick t n (pick (on (length part)) n 0)) (is-on n h)
+refused-number n part q h = ap (λ (t : Bool). pick t n (pick (on (length part)) n 0)) (on-some n h)
 
 -- an empty line says nothing
 not-empty : (part : List ℕ) → isUnfit (entry part) ≡ false → 0 < length part
@@ -115,7 +111,7 @@ at-end : Agrees []
 unfolding pass lines firstUnfit asked
 at-end n [] q h k z = record { unfit = refl; asks = λ e. refl }
 at-end n (b ∷ part) q h k z =
-    let begun-line : unfitLine (inLine n (b ∷ part) q) ≡ n = ap (λ (t : Bool). pick t n 0) (is-on (suc (length part)) (omega arith)) in
+    let begun-line : unfitLine (inLine n (b ∷ part) q) ≡ n = ap (λ (t : Bool). pick t n 0) (on-some (suc (length part)) (omega arith)) in
     rw (pushes-none b part) (unfit-first n (record { bytes = b ∷ part; ended = false }) [] q _ k refl begun-line)
 
 module _ (b : ℕ) (text : List ℕ) (n : ℕ) (part : List ℕ) (q : Inquiry) (h : length part ≤ lineBytes) (k : 0 < n) (z : n + (length part + suc (length text)) ≤ 2 ^ 64) where
@@ -140,7 +136,7 @@ module _ (b : ℕ) (text : List ℕ) (n : ℕ) (part : List ℕ) (q : Inquiry) (
   unfit-feed f t =
       let read : scanByte (inLine n part q) b ≡ refusing (inLine n part q) =
       at-feed (inLine n part q) b refl f ∙ ends-unfit (inLine n part q) (entry part) refl t in
-      rw (at-line-feed f, read, refused-stays (refusing (inLine n part q)) text (is-on n k))
+      rw (at-line-feed f, read, refused-stays (refusing (inLine n part q)) text (on-some n k))
       (unfit-first n (record { bytes = part; ended = true }) (lines text) q _ k t (refused-number n part q k))
 
   -- another byte
@@ -157,7 +153,7 @@ module _ (b : ℕ) (text : List ℕ) (n : ℕ) (part : List ℕ) (q : Inquiry) (
       let line = first part b (lines text) in
       let cut : pushes part (lines (b ∷ text)) ≡ record { bytes = part ++ b ∷ line .rest; ended = line .ended } ∷ line .later = rw (f, lines) (line .is) in
       let size : length (part ++ b ∷ line .rest) ≡ length part + suc (length (line .rest)) = length-append part (b ∷ line .rest) in
-      rw (cut, too-long (inLine n part q) b refl f l, refused-stays (refusing (inLine n part q)) text (is-on n k))
+      rw (cut, too-long (inLine n part q) b refl f l, refused-stays (refusing (inLine n part q)) text (on-some n k))
       (unfit-first n _ (line .later) q _ k (unfit-either (part ++ b ∷ line .rest) (line .ended) (long-unfit _ (omega arith))) (refused-number n part q k))
 
 agrees : (text : List ℕ) → Agrees text

@@ -6,13 +6,13 @@ use mathlib.Core.List.{List, [], _∷_}
 use Prim.Native.Nat.{ℕ, zero, suc, _^_, _≤_, _<_}
 use native.Mathlib.Omega.{arith}
 use lib.Dec.{eqb, leb, ltb}
-use lib.ListN.{length, getD, set}
+use lib.ListN.{length, getD}
 use borrow.Author.Tests.{ltb-true, leb-true}
 use Rattle.word.specs.Choice.{on}
 use Rattle.word.specs.Word.{wordBits, fits}
 use Rattle.state.specs.Limits.{budgetLimit}
 use Rattle.state.specs.Acceptable.{Acceptable, Fitting}
-use Rattle.state.proofs.Accepted.{store-acceptable}
+use Rattle.state.proofs.Accepted.{store-acceptable, store-fitting}
 use Rattle.machine.specs.State.{widths}
 use Rattle.page.specs.Text.{ascii}
 use Rattle.image.specs.Pass.{pass}
@@ -24,9 +24,8 @@ use Rattle.names.specs.Names.{find}
 use Rattle.characters.specs.declared.Class.the-variants.{Octal, Decimal}
 use Rattle.characters.proofs.Cases.{by-case}
 use Rattle.characters.proofs.Tests.{and-right}
-use Rattle.entry.specs.Lines.{machineRegisters, digitsOf, isDigits, wordEntry, registerEntry, budgetEntry, said, entry, isUnfit}
+use Rattle.entry.specs.Lines.{machineRegisters, digitsOf, isDigits, budgetDigits, wordEntry, registerEntry, budgetEntry, said, entry, isUnfit, lineBytes}
 use Rattle.inquiry.specs.Input.{Inquiry, ready, entered}
-use Rattle.entry.specs.Lines.{lineBytes}
 use Rattle.inquiry.specs.Scan.{Scan, ended, scanByte, begun, Reached}
 use Rattle.entry.specs.declared.Entry.{Entry}
 use Rattle.entry.specs.declared.Entry.the-variants.{Word, Register, Budget, Unfit}
@@ -63,7 +62,7 @@ register-narrow place value =
 budget-narrow : (value : List ℕ) → Narrow (budgetEntry value)
 unfolding budgetEntry
 budget-narrow value =
-    let digits = ltb 0 (length value) && leb (length value) 7 && isDigits Decimal (length value) value in
+    let digits = ltb 0 (length value) && leb (length value) budgetDigits && isDigits Decimal (length value) value in
     let small = leb (numberAt 10 value 0 (length value) 0) budgetLimit in
     by-case Narrow (digits && small) (λ t. leb-true _ _ (and-right digits small t)) (λ t. tt)
 
@@ -82,22 +81,10 @@ entry-narrow line =
 
 -- ---- and what is asked
 
-stored-fitting : (width : ℕ → ℕ) (l : List ℕ) (a k x : ℕ) → getD l k 0 < 2 ^ width k → x < 2 ^ width a → getD (set l a x) k 0 < 2 ^ width k
-stored-fitting width [] a k x h q = h
-stored-fitting width (y ∷ ys) zero zero x h q = q
-stored-fitting width (y ∷ ys) zero (suc k) x h q = h
-stored-fitting width (y ∷ ys) (suc a) zero x h q = h
-stored-fitting width (y ∷ ys) (suc a) (suc k) x h q = stored-fitting (λ n. width (suc n)) ys a k x h q
-
 enters : (e : Entry) (q : Inquiry) → Narrow e → Sound q → Sound (entered e q)
 unfolding entered
 enters (Word address word) q h d = record { registers = d .registers; budget = d .budget; memory = store-acceptable address h (d .memory) }
-enters (Register place value) q h d =
-    record {
-      registers = record { narrow = λ k. stored-fitting (λ n. getD widths n 0) (q .registers) place k value (d .registers .narrow k) h };
-      budget = d .budget;
-      memory = d .memory;
-    }
+enters (Register place value) q h d = record { registers = store-fitting place h (d .registers); budget = d .budget; memory = d .memory }
 enters (Budget steps) q h d = record { registers = d .registers; budget = h; memory = d .memory }
 enters Unfit q h d = d
 

@@ -1,3 +1,3 @@
-mod Tables
+pub mod Tables
 pub mod RowLines
 mod Assignments

@@ -48,7 +48,7 @@ cells-snoc (r ∷ rs) row at =
     ∙ sym (append-assoc (cellsOf at r) (cells (at + length (rowCode r)) rs) (cellsOf (at + length (rowCode r) + length (code rs)) row))
     ∙ ap (λ (k : ℕ). cellsOf at r ++ cells (at + length (rowCode r)) rs ++ cellsOf k row) (omega (arith, length-append (rowCode r) (code rs)))
 
-row-length : (at : ℕ) (row : Row) → length (cellsOf at row) ≡ rowCells
+pub row-length : (at : ℕ) (row : Row) → length (cellsOf at row) ≡ rowCells
 row-length at (does c d e) = refl
 row-length at (goes c n) = refl
 

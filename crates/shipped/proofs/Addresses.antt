@@ -18,8 +18,9 @@ use Rattle.reference.proofs.Addresses.{firstAddress-lt, indexed-acceptable}
 use Rattle.shipped.specs.Shipped.{rows·address}
 use Rattle.shipped.proofs.Held.{Work, Fit, held, addressed, addressed-fit}
 use Rattle.shipped.proofs.Ends.{Ends, seen, acts, moved, unless}
-use Rattle.shipped.proofs.Bits.{on-bit, of-bit, over, test, word-kept, index-bits}
+use Rattle.shipped.proofs.Bits.{of-bit, over, test, word-kept, index-bits}
 use Rattle.shipped.proofs.References.{ends-execute}
+use Rattle.word.proofs.Choice.{on-bit}
 
 -- the page is chosen, or the address of the chosen page
 page-chosen : (t : Bool) (x y a : ℕ) → pick t (address x a) (address y a) ≡ address (pick t x y) a

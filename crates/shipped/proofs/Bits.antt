@@ -9,17 +9,10 @@ use lib.Bits.{bitAnd}
 use lib.Dec.{eqb}
 use Rattle.word.specs.Choice.{on, pick, bit}
 use Rattle.word.specs.Word.{wordBits, bits, withBits, complement}
+use Rattle.word.proofs.Choice.{on-bit}
 use Rattle.machine.specs.State.{lacBits, link, withAc, withoutAc}
 
 -- ---- one bit as a test
-
-pub on-bit : (t : Bool) → on (bit t) ≡ t
-on-bit true = refl
-on-bit false = refl
-
-pub bit-lt : (t : Bool) → bit t < 2
-bit-lt true = omega arith
-bit-lt false = omega arith
 
 not-not : (t : Bool) → t ≡ not (not t)
 not-not true = refl

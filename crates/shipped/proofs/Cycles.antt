@@ -16,10 +16,11 @@ use Rattle.shipped.specs.Shipped.{rows·fetch, rows·decode, shipped}
 use Rattle.shipped.proofs.Held.{Work, Fit, held, fetched, fetched-fit}
 use Rattle.shipped.proofs.Plain.{cycle-plain}
 use Rattle.shipped.proofs.Ends.{Ends, acts, branches}
-use Rattle.shipped.proofs.Bits.{on-bit, word-kept}
+use Rattle.shipped.proofs.Bits.{word-kept}
 use Rattle.shipped.proofs.Interrupts.{ends-iot}
 use Rattle.shipped.proofs.Addresses.{ends-address}
 use Rattle.shipped.proofs.Operates.{ends-opr}
+use Rattle.word.proofs.Choice.{on-bit}
 
 module _ {o : State} {w : Work} (g : Good o) (f : Fit w) where
   ends-decode : Ends rows·decode (held o w) (execute (w .i) (w .last) o)

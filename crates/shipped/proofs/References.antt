@@ -10,7 +10,7 @@ use lib.ListN.{getD, set}
 use lib.Seq.{getD-set-same}
 use Rattle.word.specs.Choice.{pick}
 use Rattle.word.specs.Word.{wordBits, withBits, next}
-use Rattle.word.proofs.Choice.{choose-either}
+use Rattle.word.proofs.Choice.{choose-either, on-bit}
 use Rattle.word.proofs.Next.{next-lt}
 use Rattle.machine.specs.State.{State, Good, lacBits, word, stored, withLac, withPc, ac}
 use Rattle.machine.specs.Instruction.{op}
@@ -20,7 +20,7 @@ use Rattle.reference.specs.Reference.{andTo, addTo, incrementAndSkip, deposit, 
 use Rattle.shipped.specs.Shipped.{rows·execute, rows·jmp, rows·and, rows·tad, rows·isz, rows·dca, rows·jms}
 use Rattle.shipped.proofs.Held.{Work, Fit, held}
 use Rattle.shipped.proofs.Ends.{Ends, seen, acts, moved, jumps, branches}
-use Rattle.shipped.proofs.Bits.{on-bit, word-kept, ac-stored, ac-cleared}
+use Rattle.shipped.proofs.Bits.{word-kept, ac-stored, ac-cleared}
 use Rattle.shipped.proofs.Interrupts.{ends-interrupt}
 
 -- a choice the other way round

@@ -9,7 +9,7 @@ use lib.Bits.{bitOr, or-lt}
 use lib.ListN.{drop}
 use Rattle.word.specs.Choice.{on, pick, choose, bit}
 use Rattle.word.specs.Word.{wordBits, bits, next}
-use Rattle.word.proofs.Choice.{pick-either}
+use Rattle.word.proofs.Choice.{pick-either, on-bit, bit-lt}
 use Rattle.word.proofs.Next.{next-lt}
 use Rattle.machine.specs.State.{State, Good, withLac, withPc, withRun, link, ac, withAc, withoutAc}
 use Rattle.machine.specs.Instruction.{flag}
@@ -24,7 +24,7 @@ use Rattle.operate.specs.Operate.{cleared, sign, skipsPlain, skipsReversed, ski
 use Rattle.shipped.specs.Shipped.{rows·group2, rows·inverted, rows·decided}
 use Rattle.shipped.proofs.Held.{Work, Fit, held, skipping, skipping-fit}
 use Rattle.shipped.proofs.Ends.{Ends, seen, acts, moved, jumps, decides}
-use Rattle.shipped.proofs.Bits.{on-bit, bit-lt, of-test, of-bit, of-zero, over, both, test, set-where, ac-stored, ac-cleared}
+use Rattle.shipped.proofs.Bits.{of-test, of-bit, of-zero, over, both, test, set-where, ac-stored, ac-cleared}
 use Rattle.shipped.proofs.Interrupts.{ends-interrupt}
 
 module _ {o : State} {w : Work} (g : Good o) (f : Fit w) where

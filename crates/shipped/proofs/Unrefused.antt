@@ -1,22 +1,15 @@
 -- The claim wherever the evaluator does not refuse: its checks find nothing only at a start that meets document 01's conditions.
 -- Assumes nothing.
 use mathlib.Core.Path.{_≡_, refl, sym, ap, _∙_, subst}
-use mathlib.Core.Bool.{Bool, true, false}
 use mathlib.Core.List.{List}
 use Prim.Native.Nat.{ℕ}
-use native.Mathlib.Omega.{arith}
-use lib.Dec.{ltb}
 use lib.ListN.{length}
-use borrow.Author.Tests.{ltb-false}
-use Rattle.word.specs.Choice.{pick}
-use Rattle.state.specs.Limits.{rowPlaces}
 use Rattle.state.specs.Refusals.{numberOf, placeOf, orElse}
 use Rattle.state.specs.Checks.{checkMemory, checkRegisters, checkBudget, checkState, checkRowList}
-use Rattle.state.specs.declared.Refusal.{Refusal}
-use Rattle.state.specs.declared.Refusal.the-variants.{MemoryLength, Word, Register, Budget, RowList}
 use Rattle.state.specs.declared.Verdict.{Verdict}
 use Rattle.state.specs.declared.Verdict.the-variants.{Fit, Unfit}
-use Rattle.state.proofs.Accepted.{memory-acceptable, registers-fitting, budget-within, both-fit}
+use Rattle.state.proofs.Accepted.{memory-acceptable, registers-fitting, budget-within, row-list-long, both-fit}
+use Rattle.state.proofs.Numbers.{numbered}
 use Rattle.machine.specs.declared.Machine.{Machine}
 use Rattle.machine.specs.State.{values}
 use Rattle.emulator.specs.Emulate as emulator
@@ -30,14 +23,6 @@ use Rattle.shipped.specs.Claim.{machinePart, Start, Same, cyclesOf, Clai
 use Rattle.shipped.proofs.Accepted.{shipped-accepted}
 use Rattle.shipped.proofs.Agree.{runs-agree}
 
--- no refusal has the number 0
-numbered : (why : Refusal) → numberOf why ≡ 0 → ⊥
-numbered MemoryLength e = omega arith
-numbered (Word place) e = omega arith
-numbered (Register place) e = omega arith
-numbered Budget e = omega arith
-numbered RowList e = omega arith
-
 abbrev number : Report → ℕ
 number r = r .number
 
@@ -45,10 +30,6 @@ passes : (v : Verdict) (ran : Report) (registers memory list : List ℕ)
     → number (elim v [ Fit ↦ ran | Unfit why ↦ refused (numberOf why) (placeOf why) registers memory list ]) ≡ 0 → v ≡ Fit
 passes Fit ran registers memory list e = refl
 passes (Unfit why) ran registers memory list e = absurd (numbered why e)
-
-roomy : (b : Bool) → pick b (Unfit RowList) Fit ≡ Fit → b ≡ false
-roomy true e = let z : _≡_ {A = ℕ} 0 1 = cc in absurd (omega arith)
-roomy false e = refl
 
 module _ (m : Machine) (registers memory : List ℕ) (budget : ℕ) (list : List ℕ) where
   start-of : length registers ≡ mostRegisters → machinePart registers ≡ values m → check shipped registers memory budget list ≡ Fit
@@ -63,7 +44,7 @@ module _ (m : Machine) (registers memory : List ℕ) (budget : ℕ) (list : List
         fitting = registers-fitting (widthsOf shipped) registers (second .0);
         acceptable = memory-acceptable memory (first .0);
         within = budget-within budget (second .1);
-        roomy = ltb-false (length list) rowPlaces (roomy (ltb (length list) rowPlaces) (outer .1));
+        roomy = row-list-long (length list) (outer .1);
       }
 
   unrefused : evaluate shippedText registers memory budget list .number ≡ 0 → check shipped registers memory budget list ≡ Fit

@@ -13,12 +13,12 @@ use lib.Pow.{pow-pos}
 use borrow.Author.Tests.{eqb-true, ltb-true, ltb-false, eq-eqb, lt-ltb, le-ltb}
 use Rattle.word.specs.Choice.{pick}
 use Rattle.word.specs.Word.{wordBits}
-use Rattle.state.specs.Limits.{memoryWords, budgetLimit}
-use Rattle.state.specs.Checks.{firstUnfit, firstLargeWord, firstWideRegister, checkMemory, checkRegisters, checkBudget}
+use Rattle.state.specs.Limits.{memoryWords, budgetLimit, rowPlaces}
+use Rattle.state.specs.Checks.{firstUnfit, firstLargeWord, firstWideRegister, checkMemory, checkRegisters, checkBudget, checkRowList}
 use Rattle.state.specs.Refusals.{orElse}
 use Rattle.state.specs.Acceptable.{Acceptable, Fitting}
 use Rattle.state.specs.declared.Refusal.{Refusal}
-use Rattle.state.specs.declared.Refusal.the-variants.{MemoryLength, Budget}
+use Rattle.state.specs.declared.Refusal.the-variants.{MemoryLength, Budget, RowList}
 use Rattle.state.specs.declared.Verdict.{Verdict}
 use Rattle.state.specs.declared.Verdict.the-variants.{Fit, Unfit}
 use Rattle.state.proofs.Scan.{all-fit, none-unfit}
@@ -65,20 +65,25 @@ budget-within budget e = ltb-false _ _ (fit-false (ltb budgetLimit budget) Budge
 pub within-budget : (budget : ℕ) → budget ≤ budgetLimit → checkBudget budget ≡ Fit
 within-budget budget h = simp (le-ltb _ _ h)
 
--- a store of a word keeps memory acceptable
+pub row-list-long : (places : ℕ) → checkRowList places ≡ Fit → rowPlaces ≤ places
+row-list-long places e = ltb-false _ _ (fit-false (ltb places rowPlaces) RowList Fit e .0)
+
+-- what holds of the value at a place, and of one that is put there, holds after it
+pub set-either : (P : ℕ → ℕ → Type 0) (l : List ℕ) (a k x : ℕ) → P k (getD l k 0) → P a x → P k (getD (set l a x) k 0)
+set-either P [] a k x h q = h
+set-either P (y ∷ ys) zero zero x h q = q
+set-either P (y ∷ ys) zero (suc k) x h q = h
+set-either P (y ∷ ys) (suc a) zero x h q = h
+set-either P (y ∷ ys) (suc a) (suc k) x h q = set-either (λ n. P (suc n)) ys a k x h q
+
+-- a store of a word keeps memory acceptable, and one of a value that fits its register keeps registers fitting
 pub store-acceptable : {memory : List ℕ} (a : ℕ) {x : ℕ} → x < 2 ^ wordBits → Acceptable memory → Acceptable (set memory a x)
 store-acceptable {memory} a {x} h m =
-    record {
-      size = length-set memory a x ∙ m .size;
-      words = λ k. stored-narrow memory a k x (m .words k) h;
-    }
-  where
-    stored-narrow : (l : List ℕ) (a k x : ℕ) → getD l k 0 < 2 ^ wordBits → x < 2 ^ wordBits → getD (set l a x) k 0 < 2 ^ wordBits
-    stored-narrow [] a k x h q = h
-    stored-narrow (y ∷ ys) zero zero x h q = q
-    stored-narrow (y ∷ ys) zero (suc k) x h q = h
-    stored-narrow (y ∷ ys) (suc a) zero x h q = h
-    stored-narrow (y ∷ ys) (suc a) (suc k) x h q = stored-narrow ys a k x h q
+    record { size = length-set memory a x ∙ m .size; words = λ k. set-either (λ place y. y < 2 ^ wordBits) memory a k x (m .words k) h }
+
+pub store-fitting : {widths values : List ℕ} (a : ℕ) {x : ℕ} → x < 2 ^ getD widths a 0 → Fitting widths values → Fitting widths (set values a x)
+store-fitting {widths} {values} a {x} h f =
+    record { narrow = λ k. set-either (λ place y. y < 2 ^ getD widths place 0) values a k x (f .narrow k) h }
 
 -- two checks in order find nothing exactly where neither does
 pub both-fit : (a b : Verdict) → orElse a b ≡ Fit → (a ≡ Fit) × (b ≡ Fit)

@@ -1,2 +1,3 @@
 pub mod Scan
 pub mod Accepted
+pub mod Numbers

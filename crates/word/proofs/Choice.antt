@@ -1,10 +1,11 @@
--- The laws of a choice: what holds of both values holds of the chosen one.
+-- The laws of a choice: what holds of both values holds of the chosen one; and of the test by which it goes.
 -- Assumes nothing.
-use mathlib.Core.Path.{_≡_, refl}
+use mathlib.Core.Path.{_≡_, refl, ap}
 use native.Mathlib.Omega.{arith}
-use Prim.Native.Nat.{ℕ}
-use mathlib.Core.Bool.{Bool, true, false}
-use Rattle.word.specs.Choice.{on, pick, choose}
+use Prim.Native.Nat.{ℕ, _<_}
+use mathlib.Core.Bool.{Bool, true, false, not}
+use borrow.Author.Tests.{ne-eqb}
+use Rattle.word.specs.Choice.{on, pick, choose, bit}
 
 pub pick-either : {A : Type 0} (P : A → Type 0) (b : Bool) {x y : A} → P x → P y → P (pick b x y)
 pick-either P true p q = p
@@ -21,3 +22,16 @@ case-true false x y e = let z : _≡_ {A = ℕ} 0 1 = cc in absurd (omega arith)
 pub case-false {ℓ} : {A : Type ℓ} (b : Bool) (x y : A) → b ≡ false → elim b [ true ↦ x | false ↦ y ] ≡ y
 case-false true x y e = let z : _≡_ {A = ℕ} 0 1 = cc in absurd (omega arith)
 case-false false x y e = refl
+
+-- what is above 0 is on
+pub on-some : (n : ℕ) → 0 < n → on n ≡ true
+on-some n h = ap not (ne-eqb n 0 (λ q. omega arith))
+
+-- a test as a bit
+pub on-bit : (t : Bool) → on (bit t) ≡ t
+on-bit true = refl
+on-bit false = refl
+
+pub bit-lt : (t : Bool) → bit t < 2
+bit-lt true = omega arith
+bit-lt false = omega arith

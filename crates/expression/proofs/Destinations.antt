@@ -1,22 +1,19 @@
 -- The laws of destinations: a name or a bit part that ends with the field, and an address whose bracket does.
 -- Assumes nothing.
-use mathlib.Core.Path.{_≡_, refl, sym, ap, subst, _∙_}
+use mathlib.Core.Path.{_≡_, refl, sym, ap, _∙_}
 use mathlib.Core.Bool.{Bool, true, false, _&&_}
 use mathlib.Core.List.{List, [], _∷_}
-use Prim.Native.Nat.{ℕ, _+_, _≤_, _<_}
+use Prim.Native.Nat.{ℕ, _+_}
 use lib.Dec.{eqb, leb}
 use lib.ListN.{length, getD}
-use borrow.Author.Tests.{eq-eqb, ne-eqb, eqb-true, eqb-false}
+use borrow.Author.Tests.{eq-eqb, ne-eqb}
 use Rattle.characters.specs.Characters.{runEnd, same}
 use Rattle.names.specs.Names.{Named}
 use Rattle.characters.specs.declared.Class.the-variants as class
-use Rattle.characters.proofs.Tests.{by-test}
-use Rattle.bit_parts.specs.declared.Reference.{Reference}
-use Rattle.bit_parts.specs.declared.Reference.the-variants.{Whole, Part, Unknown}
+use Rattle.bit_parts.specs.declared.Reference.the-variants.{Whole, Part}
 use Rattle.operators.specs.Operators.{weakest}
 use Rattle.tokens.specs.Tokens.{skip, next, slice}
-use Rattle.bit_parts.specs.References.{widthIn, referenceAt}
-use Rattle.bit_parts.proofs.Onward.{whole-known, bits-known}
+use Rattle.bit_parts.specs.References.{referenceAt}
 use Rattle.code.specs.declared.Cursor.{Cursor}
 use Rattle.code.specs.declared.Part.the-variants.{Fault}
 use Rattle.expression.specs.declared.Place.{Place}
@@ -131,49 +128,3 @@ module _ (rs : List Named) (s : List ℕ) where
   pub not-trimmed : trimmed s ≡ false → destination rs s ≡ nowhere
   unfolding destination
   not-trimmed t = rw (t, destination)
-
--- what a destination names is a register of the list with its width, and bits of it
-abbrev pub Known : List Named → Destination → Type 0
-Known rs (toRegister r w) = (r < length rs) × (w ≡ widthIn rs r)
-Known rs (toPart r w a b) = (r < length rs) × (w ≡ widthIn rs r) × (a ≤ b) × (b < w)
-Known rs (toMemory t) = Unit {0}
-Known rs nowhere = Unit {0}
-
-module _ (rs : List Named) (s : List ℕ) where
-  known : (x y : Destination) → x ≡ y → Known rs y → Known rs x
-  known x y e k = subst (Known rs) (sym e) k
-
-  named-known : (x : Reference) → referenceAt rs s 0 ≡ x → Known rs (ofName s x)
-  unfolding ofName
-  named-known (Whole r w p) e =
-      by-test (eqb p (length s))
-      (λ t. known (ofName s (Whole r w p)) (toRegister r w) (to-register s r w p (eqb-true p (length s) t)) (whole-known rs s 0 r w p e))
-      (λ t. known (ofName s (Whole r w p)) nowhere (not-register s r w p (eqb-false p (length s) t)) tt)
-  named-known (Part r w a b p) e =
-      by-test (eqb p (length s))
-      (λ t. known (ofName s (Part r w a b p)) (toPart r w a b) (to-part s r w p a b (eqb-true p (length s) t)) (bits-known rs s 0 r w a b p e))
-      (λ t. known (ofName s (Part r w a b p)) nowhere (not-part s r w p a b (eqb-false p (length s) t)) tt)
-  named-known Unknown e = tt
-
-  address-known : (x : Reading) → Known rs (ofAddress s x)
-  unfolding ofAddress
-  address-known (read t p) =
-      by-test (shut s t p)
-      (λ u. known (ofAddress s (read t p)) (toMemory t) (is-address s t p u) tt)
-      (λ u. known (ofAddress s (read t p)) nowhere (no-address s t p u) tt)
-  address-known outside = tt
-
-  memory-known : (end : ℕ) → Known rs (memoryAt rs s end)
-  memory-known end =
-      by-test (eqb (next s end) 91)
-      (λ t. known (memoryAt rs s end) (ofAddress s (level (fuel s) rs s 0 weakest (skip s end + 1))) (opens rs s end t) (address-known (level (fuel s) rs s 0 weakest (skip s end + 1))))
-      (λ t. known (memoryAt rs s end) nowhere (bare rs s end t) tt)
-
-  pub destination-known : Known rs (destination rs s)
-  destination-known =
-      by-test (trimmed s)
-      (λ t.
-      by-test (same (slice s 0 (runEnd class.Word s 0)) (77 ∷ []))
-      (λ u. known (destination rs s) (memoryAt rs s (runEnd class.Word s 0)) (to-memory rs s t u) (memory-known (runEnd class.Word s 0)))
-      (λ u. known (destination rs s) (ofName s (referenceAt rs s 0)) (to-name rs s t u) (named-known (referenceAt rs s 0) refl)))
-      (λ t. known (destination rs s) nowhere (not-trimmed rs s t) tt)

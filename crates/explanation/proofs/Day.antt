@@ -21,7 +21,7 @@ use Rattle.fields.specs.Fields.{lines, field, hasFields}
 use Rattle.names.specs.Names.{find}
 use Rattle.evaluator.specs.Cycle.{cycleFrom}
 use Rattle.evaluator.specs.Run as cycles
-use Rattle.shipped.specs.Text.{shippedText}
+use Rattle.pdp8_rows.specs.Text.{shippedText}
 use Rattle.entry.specs.Lines.{wordEntry, registerEntry, budgetEntry, said, entry}
 use Rattle.inquiry.specs.Input.{ready, entered, asked, firstUnfit}
 use Rattle.run_lines.specs.Rows.{rowTexts, rowLine, rowLines}

@@ -17,8 +17,8 @@ use Rattle.description.specs.Description.{accepted, readText}
 use Rattle.evaluator.specs.Run as cycles
 use Rattle.evaluator.specs.Evaluate as evaluator
 use Rattle.evaluator.specs.Evaluate.{evaluate, widthsOf}
-use Rattle.shipped.specs.Text.{shippedText}
-use Rattle.shipped.specs.Shipped.{shipped}
+use Rattle.pdp8_rows.specs.Text.{shippedText}
+use Rattle.pdp8_rows.specs.Shipped.{shipped}
 
 -- the machine registers among the evaluator's places: "in this order, which begins the shipped description too"
 abbrev pub machinePart : List ℕ → List ℕ

@@ -1,5 +1,4 @@
--- The reader accepts the shipped text, and these are its registers and rows: the definition of reading, computed. They begin with the machine registers'
--- widths, and are within their limit.
+-- The reader accepts the shipped text, and these are its registers and rows: the definition of reading, computed. They are within their limit.
 -- Assumes nothing.
 use mathlib.Core.Path.{_≡_, refl}
 use Prim.Native.Nat.{_≤_}
@@ -20,19 +19,12 @@ use Rattle.targets.specs.Targets.{passes}
 use Rattle.row.specs.Lines.{addRow, doRow, withRow, doLine, goRow, goLine}
 use Rattle.description.specs.Description.{accepted, finished, readLines, readText}
 use Rattle.line.specs.Line.{readLine}
-use Rattle.machine.specs.State.{widths}
-use Rattle.evaluator.specs.Evaluate.{widthsOf}
-use Rattle.shipped.specs.Text.{shippedText}
-use Rattle.shipped.specs.Shipped.{mostShippedRows, shipped}
-use Rattle.shipped.specs.Claim.{machinePart}
+use Rattle.pdp8_rows.specs.Text.{shippedText}
+use Rattle.pdp8_rows.specs.Shipped.{mostShippedRows, shipped}
 
 pub shipped-accepted : readText shippedText ≡ accepted shipped
 unfolding run runEnd same numberAt decimalAt markedAt shortestFrom ofDecimal constantAt lines field hasFields isName find placeIn operatorRow tokenEnd operatorAt operatorEnd secondBit firstBit spanAt partOf registerAt referenceAt limited ofReference ofConstant notOf closed turned joined level whole expression ofName ofAddress memoryAt destination addRegister regLine addRow doRow withRow doLine passes goRow goLine addLabel atLine readLine finished readLines readText shippedText
 shipped-accepted = refl
-
--- "Machine registers, in this order, which begins the shipped description too"
-pub shipped-begins : machinePart (widthsOf shipped) ≡ widths
-shipped-begins = refl
 
 pub shipped-short : length (shipped .rows) ≤ mostShippedRows
 shipped-short = lit≤ tt

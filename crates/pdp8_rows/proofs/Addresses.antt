@@ -15,11 +15,11 @@ use Rattle.machine.specs.Interrupt.{interruptTest}
 use Rattle.reference.specs.Address.{address, firstAddress, indexed, effective, afterIndexing}
 use Rattle.reference.specs.Reference.{operation, reference}
 use Rattle.reference.proofs.Addresses.{firstAddress-lt, indexed-acceptable}
-use Rattle.shipped.specs.Shipped.{rows·address}
-use Rattle.shipped.proofs.Held.{Work, Fit, held, addressed, addressed-fit}
-use Rattle.shipped.proofs.Ends.{Ends, seen, acts, moved, unless}
-use Rattle.shipped.proofs.Bits.{on-bit, of-bit, over, test, word-kept, index-bits}
-use Rattle.shipped.proofs.References.{ends-execute}
+use Rattle.pdp8_rows.specs.Shipped.{rows·address}
+use Rattle.pdp8_rows.proofs.Held.{Work, Fit, held, addressed, addressed-fit}
+use Rattle.pdp8_rows.proofs.Ends.{Ends, seen, acts, moved, unless}
+use Rattle.pdp8_rows.proofs.Bits.{on-bit, of-bit, over, test, word-kept, index-bits}
+use Rattle.pdp8_rows.proofs.References.{ends-execute}
 
 -- the page is chosen, or the address of the chosen page
 page-chosen : (t : Bool) (x y a : ℕ) → pick t (address x a) (address y a) ≡ address (pick t x y) a

@@ -14,8 +14,8 @@ use Rattle.expression.specs.Expression.{Destination}
 use Rattle.declaration.specs.Rows.{Row, does, goes}
 use Rattle.value.specs.Value as rows
 use Rattle.value.specs.Value.{value, store}
-use Rattle.shipped.proofs.Held.{Work, Fit, held}
-use Rattle.shipped.proofs.Plain.{plain, plain-drop}
+use Rattle.pdp8_rows.proofs.Held.{Work, Fit, held}
+use Rattle.pdp8_rows.proofs.Plain.{plain, plain-drop}
 
 pub record Ends (rs : List Row) (s : rows.State) (o : State) : Type 0 where
   pub left : Work

@@ -12,14 +12,14 @@ use Rattle.machine.specs.Interrupt.{interruptTest}
 use Rattle.machine.proofs.Keeps.{pc-good}
 use Rattle.pdp8.specs.Step.{execute, step}
 use Rattle.evaluator.specs.Cycle.{cycle}
-use Rattle.shipped.specs.Shipped.{rows·fetch, rows·decode, shipped}
-use Rattle.shipped.proofs.Held.{Work, Fit, held, fetched, fetched-fit}
-use Rattle.shipped.proofs.Plain.{cycle-plain}
-use Rattle.shipped.proofs.Ends.{Ends, acts, branches}
-use Rattle.shipped.proofs.Bits.{on-bit, word-kept}
-use Rattle.shipped.proofs.Interrupts.{ends-iot}
-use Rattle.shipped.proofs.Addresses.{ends-address}
-use Rattle.shipped.proofs.Operates.{ends-opr}
+use Rattle.pdp8_rows.specs.Shipped.{rows·fetch, rows·decode, shipped}
+use Rattle.pdp8_rows.proofs.Held.{Work, Fit, held, fetched, fetched-fit}
+use Rattle.pdp8_rows.proofs.Plain.{cycle-plain}
+use Rattle.pdp8_rows.proofs.Ends.{Ends, acts, branches}
+use Rattle.pdp8_rows.proofs.Bits.{on-bit, word-kept}
+use Rattle.pdp8_rows.proofs.Interrupts.{ends-iot}
+use Rattle.pdp8_rows.proofs.Addresses.{ends-address}
+use Rattle.pdp8_rows.proofs.Operates.{ends-opr}
 
 module _ {o : State} {w : Work} (g : Good o) (f : Fit w) where
   ends-decode : Ends rows·decode (held o w) (execute (w .i) (w .last) o)

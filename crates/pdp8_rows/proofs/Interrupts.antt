@@ -8,10 +8,10 @@ use Rattle.word.specs.Choice.{on, bit}
 use Rattle.word.specs.Word.{wordBits, complement}
 use Rattle.machine.specs.State.{State, Good, stored, withPc, withEnable}
 use Rattle.machine.specs.Interrupt.{interrupted, interruptTest, inputOutput, ion, iof}
-use Rattle.shipped.specs.Shipped.{rows·interrupt, rows·iot}
-use Rattle.shipped.proofs.Held.{Work, Fit, held}
-use Rattle.shipped.proofs.Ends.{Ends, past, acts, idles, jumps, stays}
-use Rattle.shipped.proofs.Bits.{of-bit, over, test, word-kept}
+use Rattle.pdp8_rows.specs.Shipped.{rows·interrupt, rows·iot}
+use Rattle.pdp8_rows.proofs.Held.{Work, Fit, held}
+use Rattle.pdp8_rows.proofs.Ends.{Ends, past, acts, idles, jumps, stays}
+use Rattle.pdp8_rows.proofs.Bits.{of-bit, over, test, word-kept}
 
 module _ {o : State} {w : Work} (f : Fit w) where
   -- "M[0] = PC, PC = 1, INTERRUPT.ENABLE = 0"

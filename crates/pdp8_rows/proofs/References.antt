@@ -17,11 +17,11 @@ use Rattle.machine.specs.Instruction.{op}
 use Rattle.machine.specs.Interrupt.{interruptTest}
 use Rattle.machine.proofs.Lac.{ac-lt}
 use Rattle.reference.specs.Reference.{andTo, addTo, incrementAndSkip, deposit, callAt, jumpTo, operation}
-use Rattle.shipped.specs.Shipped.{rows·execute, rows·jmp, rows·and, rows·tad, rows·isz, rows·dca, rows·jms}
-use Rattle.shipped.proofs.Held.{Work, Fit, held}
-use Rattle.shipped.proofs.Ends.{Ends, seen, acts, moved, jumps, branches}
-use Rattle.shipped.proofs.Bits.{on-bit, word-kept, ac-stored, ac-cleared}
-use Rattle.shipped.proofs.Interrupts.{ends-interrupt}
+use Rattle.pdp8_rows.specs.Shipped.{rows·execute, rows·jmp, rows·and, rows·tad, rows·isz, rows·dca, rows·jms}
+use Rattle.pdp8_rows.proofs.Held.{Work, Fit, held}
+use Rattle.pdp8_rows.proofs.Ends.{Ends, seen, acts, moved, jumps, branches}
+use Rattle.pdp8_rows.proofs.Bits.{on-bit, word-kept, ac-stored, ac-cleared}
+use Rattle.pdp8_rows.proofs.Interrupts.{ends-interrupt}
 
 -- a choice the other way round
 pick-not : (t : Bool) (x y : ℕ) → pick t y x ≡ pick (not t) x y

@@ -17,9 +17,9 @@ use Rattle.value.specs.Value as rows
 use Rattle.evaluator.specs.Cycle.{Cycle, cycle}
 use Rattle.evaluator.specs.Run as cycles
 use Rattle.evaluator.specs.Run.{running}
-use Rattle.shipped.specs.Shipped.{shipped, shippedRegisters}
-use Rattle.shipped.proofs.Held.{Work, Fit, held}
-use Rattle.shipped.proofs.Cycles.{cycles-step}
+use Rattle.pdp8_rows.specs.Shipped.{shipped, shippedRegisters}
+use Rattle.pdp8_rows.proofs.Held.{Work, Fit, held}
+use Rattle.pdp8_rows.proofs.Cycles.{cycles-step}
 
 -- RUN is the machine's
 run-place : find runName shippedRegisters ≡ 2

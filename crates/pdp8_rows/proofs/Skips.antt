@@ -21,11 +21,11 @@ use Rattle.declaration.specs.Rows.{Row, does}
 use Rattle.value.specs.Value as rows
 use Rattle.value.specs.Value.{value}
 use Rattle.operate.specs.Operate.{cleared, sign, skipsPlain, skipsReversed, skips, switched, group2}
-use Rattle.shipped.specs.Shipped.{rows·group2, rows·inverted, rows·decided}
-use Rattle.shipped.proofs.Held.{Work, Fit, held, skipping, skipping-fit}
-use Rattle.shipped.proofs.Ends.{Ends, seen, acts, moved, jumps, decides}
-use Rattle.shipped.proofs.Bits.{on-bit, bit-lt, of-test, of-bit, of-zero, over, both, test, set-where, ac-stored, ac-cleared}
-use Rattle.shipped.proofs.Interrupts.{ends-interrupt}
+use Rattle.pdp8_rows.specs.Shipped.{rows·group2, rows·inverted, rows·decided}
+use Rattle.pdp8_rows.proofs.Held.{Work, Fit, held, skipping, skipping-fit}
+use Rattle.pdp8_rows.proofs.Ends.{Ends, seen, acts, moved, jumps, decides}
+use Rattle.pdp8_rows.proofs.Bits.{on-bit, bit-lt, of-test, of-bit, of-zero, over, both, test, set-where, ac-stored, ac-cleared}
+use Rattle.pdp8_rows.proofs.Interrupts.{ends-interrupt}
 
 module _ {o : State} {w : Work} (g : Good o) (f : Fit w) where
   abbrev i : ℕ

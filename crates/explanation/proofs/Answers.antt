@@ -32,7 +32,7 @@ use Rattle.evaluator.specs.Evaluate as evaluator
 use Rattle.evaluator.specs.Evaluate.{evaluate, widthsOf}
 use Rattle.evaluator.specs.declared.Outcome.{Outcome}
 use Rattle.evaluator.specs.declared.Outcome.the-variants.{Ran, Unread, Refused}
-use Rattle.day_listing.specs.Listing.{endLine}
+use Rattle.last_lines.specs.LastLines.{endLine}
 use Rattle.entry.specs.Lines.{machineRegisters}
 use Rattle.characters.proofs.Tests.{by-test}
 use Rattle.pdp8_rows.specs.Text.{shippedText}

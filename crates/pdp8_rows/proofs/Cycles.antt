@@ -11,7 +11,7 @@ use Rattle.machine.specs.Instruction.{op}
 use Rattle.machine.specs.Interrupt.{interruptTest}
 use Rattle.machine.proofs.Keeps.{pc-good}
 use Rattle.pdp8.specs.Step.{execute, step}
-use Rattle.evaluator.specs.Cycle.{cycle}
+use Rattle.cycles.specs.Cycle.{cycle}
 use Rattle.pdp8_rows.specs.Shipped.{rows·fetch, rows·decode, shipped}
 use Rattle.pdp8_rows.proofs.Held.{Work, Fit, held, fetched, fetched-fit}
 use Rattle.pdp8_rows.proofs.Plain.{cycle-plain}

@@ -14,9 +14,9 @@ use Rattle.characters.specs.Characters.{same}
 use Rattle.names.specs.Names.{find}
 use Rattle.description.specs.Description.{runName}
 use Rattle.value.specs.Value as rows
-use Rattle.evaluator.specs.Cycle.{Cycle, cycle}
-use Rattle.evaluator.specs.Run as cycles
-use Rattle.evaluator.specs.Run.{running}
+use Rattle.cycles.specs.Cycle.{Cycle, cycle}
+use Rattle.cycles.specs.Run as cycles
+use Rattle.cycles.specs.Run.{running}
 use Rattle.pdp8_rows.specs.Shipped.{shipped, shippedRegisters}
 use Rattle.pdp8_rows.proofs.Held.{Work, Fit, held}
 use Rattle.pdp8_rows.proofs.Cycles.{cycles-step}

@@ -15,7 +15,7 @@ use Rattle.emulator.specs.Emulate as emulator
 use Rattle.emulator.specs.Emulate.{emulate}
 use Rattle.description.specs.Description as text
 use Rattle.value.specs.Value as rows
-use Rattle.evaluator.specs.Run as cycles
+use Rattle.cycles.specs.Run as cycles
 use Rattle.evaluator.specs.Evaluate as evaluator
 use Rattle.evaluator.specs.Evaluate.{evaluate, evaluateOf, check}
 use Rattle.pdp8_rows.specs.Text.{shippedText}

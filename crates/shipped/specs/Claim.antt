@@ -14,7 +14,7 @@ use Rattle.emulator.specs.Emulate as emulator
 use Rattle.emulator.specs.Emulate.{emulate}
 use Rattle.declaration.specs.Limits.{mostRegisters}
 use Rattle.description.specs.Description.{accepted, readText}
-use Rattle.evaluator.specs.Run as cycles
+use Rattle.cycles.specs.Run as cycles
 use Rattle.evaluator.specs.Evaluate as evaluator
 use Rattle.evaluator.specs.Evaluate.{evaluate, widthsOf}
 use Rattle.pdp8_rows.specs.Text.{shippedText}

@@ -1,8 +1,8 @@
--- `code::complemented_part`: Not puts one word behind its operand.
-use Rattle.code.proofs.Making.{turned-over}
+-- `compounds::complemented_part`: Not puts one word behind its operand.
+use Rattle.compounds.proofs.Making.{turned-over}
 use borrow.Author.Needs.{needs}
-use Rattle.code.proofs.complemented_part.Statement.{statement}
-use Rattle.code.proofs.complemented_part.Tie as tie
+use Rattle.compounds.proofs.complemented_part.Statement.{statement}
+use Rattle.compounds.proofs.complemented_part.Tie as tie
 
 emit-requires : tie.Need-emit-requires
 emit-requires c κs = search needs

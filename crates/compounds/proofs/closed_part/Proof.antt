@@ -1,13 +1,13 @@
--- `code::closed_part`: by the byte that stands next.
+-- `compounds::closed_part`: by the byte that stands next.
 use mathlib.Core.Path.{sym, _∙_}
 use Prim.Native.Nat.{_+_}
 use native.Mathlib.Omega.{arith}
 use borrow.Author.Tests.{eq-eqb, ne-eqb}
 use Rattle.tokens.proofs.Tokens.{present, at-mark, off-mark}
-use Rattle.code.proofs.Making.{left-open, square, round}
+use Rattle.compounds.proofs.Making.{left-open, square, round}
 use borrow.Author.Needs.{needs}
-use Rattle.code.proofs.closed_part.Statement.{statement}
-use Rattle.code.proofs.closed_part.Tie as tie
+use Rattle.compounds.proofs.closed_part.Statement.{statement}
+use Rattle.compounds.proofs.closed_part.Tie as tie
 
 skip-spaces-requires : tie.Need-skip-spaces-requires
 skip-spaces-requires c κs = search needs

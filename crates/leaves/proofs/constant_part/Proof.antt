@@ -1,16 +1,16 @@
--- `code::constant_part`: a constant is one word.
+-- `leaves::constant_part`: a constant is one word.
 use mathlib.Core.Path.{refl, sym, ap, _∙_}
 use Prim.Native.Nat.{_+_}
 use native.Mathlib.Omega.{arith}
 use Rattle.constants.specs.Constants.{constantAt}
 use Rattle.code.specs.Tree.{constant}
 use Rattle.code.specs.Readings.{ofConstant}
 use Rattle.code.specs.Code.{codeOf}
 use Rattle.bit_parts.proofs.Onward.{constant-past}
 use Rattle.code.proofs.Parts.{no-leaf}
 use borrow.Author.Needs.{needs}
-use Rattle.code.proofs.constant_part.Statement.{statement}
-use Rattle.code.proofs.constant_part.Tie as tie
+use Rattle.leaves.proofs.constant_part.Statement.{statement}
+use Rattle.leaves.proofs.constant_part.Tie as tie
 
 constant-at-requires : tie.Need-constant-at-requires
 constant-at-requires c κs = search needs

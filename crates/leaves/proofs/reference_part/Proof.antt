@@ -1,17 +1,17 @@
--- `code::reference_part`: a register or a bit part is one word.
+-- `leaves::reference_part`: a register or a bit part is one word.
 use mathlib.Core.Path.{refl, sym, ap, _∙_}
 use Prim.Native.Nat.{_+_}
 use native.Mathlib.Omega.{arith}
 use Rattle.names.specs.Names.{entries}
 use Rattle.bit_parts.specs.References.{referenceAt}
 use Rattle.bit_parts.proofs.Onward.{whole-past, bits-past}
 use Rattle.code.specs.Tree.{register, bitPart}
 use Rattle.code.specs.Readings.{ofReference}
 use Rattle.code.specs.Code.{codeOf}
 use Rattle.code.proofs.Parts.{no-leaf}
 use borrow.Author.Needs.{needs}
-use Rattle.code.proofs.reference_part.Statement.{statement}
-use Rattle.code.proofs.reference_part.Tie as tie
+use Rattle.leaves.proofs.reference_part.Statement.{statement}
+use Rattle.leaves.proofs.reference_part.Tie as tie
 
 reference-at-requires : tie.Need-reference-at-requires
 reference-at-requires c κs = search needs

@@ -1,4 +1,4 @@
--- `code::rotated_part`: a rotation is one word, and its count one piece of two.
+-- `compounds::rotated_part`: a rotation is one word, and its count one piece of two.
 use mathlib.Core.Path.{sym, ap, _∙_}
 use Prim.Native.Nat.{_+_}
 use native.Mathlib.Omega.{arith}
@@ -7,10 +7,10 @@ use Rattle.characters.specs.declared.Class.the-variants.{Space}
 use Rattle.characters.proofs.Runs.{onward}
 use Rattle.tokens.specs.Tokens.{skip}
 use Rattle.bit_parts.proofs.Onward.{decimal-past}
-use Rattle.code.proofs.Making.{rotates, large-count, no-count}
+use Rattle.compounds.proofs.Making.{rotates, large-count, no-count}
 use borrow.Author.Needs.{needs}
-use Rattle.code.proofs.rotated_part.Statement.{statement}
-use Rattle.code.proofs.rotated_part.Tie as tie
+use Rattle.compounds.proofs.rotated_part.Statement.{statement}
+use Rattle.compounds.proofs.rotated_part.Tie as tie
 
 skip-spaces-requires : tie.Need-skip-spaces-requires
 skip-spaces-requires c κs = search needs

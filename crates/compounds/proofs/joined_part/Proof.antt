@@ -1,8 +1,8 @@
--- `code::joined_part`: an operator puts one word behind its sides.
-use Rattle.code.proofs.Making.{joins, joins-not}
+-- `compounds::joined_part`: an operator puts one word behind its sides.
+use Rattle.compounds.proofs.Making.{joins, joins-not}
 use borrow.Author.Needs.{needs}
-use Rattle.code.proofs.joined_part.Statement.{statement}
-use Rattle.code.proofs.joined_part.Tie as tie
+use Rattle.compounds.proofs.joined_part.Statement.{statement}
+use Rattle.compounds.proofs.joined_part.Tie as tie
 
 entry-in-requires : tie.Need-entry-in-requires
 entry-in-requires c κs = search needs

@@ -1,9 +1,9 @@
--- `code::leaf_part`: by its width.
+-- `leaves::leaf_part`: by its width.
 use mathlib.Core.List.{[], _∷_}
 use Rattle.code.proofs.Parts.{leaf, wide-leaf}
 use borrow.Author.Needs.{needs}
-use Rattle.code.proofs.leaf_part.Statement.{statement}
-use Rattle.code.proofs.leaf_part.Tie as tie
+use Rattle.leaves.proofs.leaf_part.Statement.{statement}
+use Rattle.leaves.proofs.leaf_part.Tie as tie
 
 emit-requires : tie.Need-emit-requires
 emit-requires c κs = search needs

@@ -11,7 +11,8 @@ use Rattle.state.specs.Checks.{checkMemory}
 use Rattle.state.specs.declared.Verdict.{Verdict}
 use Rattle.state.specs.declared.Verdict.the-variants.{Fit}
 use Rattle.state.proofs.Accepted.{acceptable-memory}
-use Rattle.day_listing.specs.Listing.{runListing, refusedLine, listingOf, dayListing, checkedListing, scanListing}
+use Rattle.last_lines.specs.LastLines.{refusedLine}
+use Rattle.day_listing.specs.Listing.{runListing, listingOf, dayListing, checkedListing, scanListing}
 use Rattle.image.specs.Pass.{Countable}
 use Rattle.image.specs.Scan.{Scan, unfitLine, scanOf}
 use Rattle.image.proofs.ByLines.{by-lines}

@@ -9,7 +9,8 @@ use Rattle.pdp8.specs.Step.{execute, step}
 use Rattle.pdp8.specs.Run.{runFrom, run}
 use Rattle.page.specs.Text.{ascii, octal, decimalIn, decimal}
 use Rattle.image.specs.Input.{linesOf, formed, fit, octalValue, addressOf, wordOf, clear, loaded, firstUnfit}
-use Rattle.day_listing.specs.Listing.{stepLine, stepLines, endLine, runListing, dayListing}
+use Rattle.last_lines.specs.LastLines.{endLine}
+use Rattle.day_listing.specs.Listing.{stepLine, stepLines, runListing, dayListing}
 
 pub day : dayListing (ascii "0200\t7300\n0201\t1204\n0202\t7001\n0203\t7402\n0204\t7777\n")
     ≡ ascii "step\tpc\ti\tlac\trun\n1\t0200\t7300\t00000\t1\n2\t0201\t1204\t07777\t1\n3\t0202\t7001\t10000\t1\n4\t0203\t7402\t10000\t0\nend\t4\thalted\n"

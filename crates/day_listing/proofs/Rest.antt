@@ -15,7 +15,8 @@ use Rattle.machine.specs.State.{State, word, Good}
 use Rattle.pdp8.specs.Step.{step}
 use Rattle.pdp8.specs.Run.{runFrom, run}
 use Rattle.pdp8.proofs.Keeps.{step-good}
-use Rattle.day_listing.specs.Listing.{budget, ready, heading, stepLine, stepLines, endLine, runListing}
+use Rattle.last_lines.specs.LastLines.{endLine}
+use Rattle.day_listing.specs.Listing.{budget, ready, heading, stepLine, stepLines, runListing}
 use Rattle.page.specs.Written.{Written}
 use Rattle.day_listing.specs.Stepped.{Stepped}
 use Rattle.page.proofs.Writing.{written-none, written-then}

@@ -5,14 +5,13 @@ use mathlib.Core.Bool.{true, false}
 use Prim.Native.Nat.{ℕ, zero, suc}
 use Rattle.word.specs.Choice.{on, choose}
 use Rattle.state.specs.Checks.{checkMemory}
-use Rattle.state.specs.declared.Reason.{Reason}
-use Rattle.state.specs.declared.Reason.the-variants.{Halted, Spent}
 use Rattle.state.specs.declared.Verdict.{Verdict}
 use Rattle.state.specs.declared.Verdict.the-variants.{Fit, Unfit}
 use Rattle.machine.specs.State.{State, word}
 use Rattle.pdp8.specs.Step.{step}
 use Rattle.pdp8.specs.Run.{run}
 use Rattle.page.specs.Text.{ascii, tab, lineFeed, octal, decimal}
+use Rattle.last_lines.specs.LastLines.{endLine, refusedLine}
 use Rattle.image.specs.Input.{linesOf, clear, loaded, firstUnfit}
 use Rattle.image.specs.Scan.{Scan, unfitLine}
 
@@ -42,24 +41,11 @@ stepLines (suc left) done s =
       | false ↦ []
     ]
 
--- "`halted` if RUN is 0 at the end, else `spent`"
-abbrev pub reasonWord : Reason → List ℕ
-reasonWord Halted = ascii "halted"
-reasonWord Spent = ascii "spent"
-
--- "last, the steps done and the reason"
-unfoldable pub endLine : ℕ → Reason → List ℕ
-endLine steps reason = ascii "end\t" ++ decimal steps ++ tab ∷ reasonWord reason ++ lineFeed ∷ []
-
 -- the listing of the run from a loaded memory
 unfoldable pub runListing : List ℕ → List ℕ
 runListing memory =
     heading ++ stepLines budget 0 (ready memory)
     ++ endLine (run budget (ready memory) .steps) (run budget (ready memory) .reason)
-
--- "the output is only `refused`, TAB, the first such line's number"
-unfoldable pub refusedLine : ℕ → List ℕ
-refusedLine n = ascii "refused\t" ++ decimal n ++ lineFeed ∷ []
 
 -- "If any line is unfit, ..": for the number of the first unfit line, or 0, and the memory loaded
 abbrev pub listingOf : ℕ → List ℕ → List ℕ

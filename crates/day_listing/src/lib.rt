@@ -1,5 +1,5 @@
 // The day listing: a text of octal words is loaded into the machine, and the text of its run is written.
-pub mod lines;
+mod lines;
 mod run;
 
 use image::Scanner;
@@ -19,7 +19,7 @@ pub fn listing(memory: &[u16; MEMORY_WORDS], s: Scanner, page: &mut [u8; PAGE_BY
 {
     let refused = image::unfit_line(s);
     if refused != 0 {
-        return lines::put_refused_line(page, refused);
+        return last_lines::put_refused_line(page, refused);
     }
     match state::check_memory(memory) {
         Verdict::Unfit(_) => 0,

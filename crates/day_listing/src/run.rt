@@ -1,7 +1,7 @@
 // The run of a loaded memory, step by step, with its lines.
 use crate::PAGE_BYTES;
-use crate::lines::put_end_line;
 use crate::lines::put_step_line;
+use last_lines::put_end_line;
 use machine::Processor;
 use page::put_text;
 use state::MEMORY_WORDS;

@@ -36,17 +36,15 @@ use Rattle.row.specs.Cells as row
 use Rattle.description.specs.Description.{accepted, turnedDown, runName, readText}
 use Rattle.description.specs.Formed.{Formed}
 use Rattle.value.specs.Value.{State}
-use Rattle.evaluator.specs.Cycle.{Cycle, cycle}
-use Rattle.evaluator.specs.Run.{Run, running, ended, runFrom, run}
+use Rattle.cycles.specs.Run.{Run, running, run}
 use Rattle.evaluator.specs.Evaluate.{refused, finished, widthsOf, check, evaluateOf, evaluate, outcomeOf, report}
 use Rattle.evaluator.specs.declared.Outcome.the-variants.{Ran}
-use Rattle.evaluator.specs.declared.run.Course as course
+use Rattle.cycles.specs.declared.run.Course as course
 use Rattle.value.specs.Fitting.{registerPlaces}
 use Rattle.value.specs.Fitting as fitting
 use Rattle.value.specs.Words.{codePlaces}
-use Rattle.evaluator.specs.Stored.{turning, runAt, stopped, coursingFrom, coursing, Coursed, widthAt, padded, checkPadded}
-use Rattle.evaluator.proofs.Cycles.{cycle-fits}
-use Rattle.evaluator.proofs.Tables.{cycle-is}
+use Rattle.cycles.specs.Stored.{runAt, Coursed}
+use Rattle.evaluator.specs.Padded.{widthAt, padded, checkPadded}
 use Rattle.evaluator.proofs.Padding.{padded-at, padded-past}
 
 -- the checks go by each place's width alone
@@ -124,36 +122,6 @@ module _ (d : Description) (registers memory : List ℕ) (budget : ℕ) (list : 
   check-room =
       let outer = both-fit (checkState (widthsOf d) registers memory budget) (checkRowList (length list)) e in
       row-list-long (length list) (outer .1)
-
--- the run over the tables is the run of the rows
-module _ (d : Description) (formed : Formed d) (code table : List ℕ) (count place : ℕ)
-    (turns : (s : State) → fitting.Fit (d .registers) s → turning code table 0 count 0 s ≡ cycle (d .rows) s)
-    (read : (s : State) → runAt place s ≡ running d s) where
-  stopped-is : (done : ℕ) (c : Cycle) → stopped place done c ≡ ended d done c
-  stopped-is done c = ap (λ (n : ℕ). record { state = c .state; steps = done; reason = choose n Spent Halted; acted = c .acted }) (read (c .state))
-
-  runs-from : (left done : ℕ) (c : Cycle) → fitting.Fit (d .registers) (c .state) → coursingFrom code table count place left done c ≡ runFrom d left done c
-  unfolding coursingFrom runFrom
-  runs-from zero done c f = stopped-is done c
-  runs-from (suc left) done c f =
-      ap (λ (n : ℕ). elim (on n) [ true ↦ coursingFrom code table count place left (suc done) (turning code table 0 count 0 (c .state)) | false ↦ stopped place done c ]) (read (c .state))
-      ∙ ap (λ (x : Run). elim (on (running d (c .state))) [ true ↦ x | false ↦ stopped place done c ])
-      (ap (coursingFrom code table count place left (suc done)) (turns (c .state) f)
-      ∙ runs-from left (suc done) (cycle (d .rows) (c .state)) (cycle-fits (d .registers) (d .rows) (formed .rows-formed) (c .state) f))
-      ∙ ap (λ (x : Run). elim (on (running d (c .state))) [ true ↦ runFrom d left (suc done) (cycle (d .rows) (c .state)) | false ↦ x ]) (stopped-is done c)
-
-  run-is : (budget : ℕ) (s : State) → fitting.Fit (d .registers) s → coursing code table count place budget s ≡ run d budget s
-  unfolding run
-  run-is budget s f = runs-from budget 0 (record { state = s; acted = [] }) f
-
--- the tables that the reader fills
-pub tables-run : (d : Description) → Formed d → (code₀ table₀ code table : List ℕ) (count place : ℕ) → count ≡ length (d .rows) → length code₀ ≡ codePlaces
-    → length table₀ ≡ row.rowCells * mostRows → code ≡ sets code₀ 0 (row.code (d .rows)) → table ≡ sets table₀ 0 (row.cells 0 (d .rows))
-    → ((s : State) → runAt place s ≡ running d s) → (budget : ℕ) (s : State) → fitting.Fit (d .registers) s → coursing code table count place budget s ≡ run d budget s
-tables-run d formed code₀ table₀ code table count place n lc lt ec et read budget s f =
-    run-is d formed code table count place
-    (λ x g. ap (λ (k : ℕ). turning code table 0 k 0 x) n ∙ cycle-is d formed code₀ table₀ lc lt ec et x g)
-    read budget s f
 
 -- the answer of each way
 module _ (text registers memory : List ℕ) (budget : ℕ) (list : List ℕ) where

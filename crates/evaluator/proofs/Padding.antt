@@ -16,7 +16,7 @@ use Rattle.state.specs.declared.Verdict.{Verdict}
 use Rattle.state.specs.declared.Verdict.the-variants.{Fit, Unfit}
 use Rattle.names.specs.declared.Dictionary.{Dictionary}
 use Rattle.characters.proofs.Tests.{by-test}
-use Rattle.evaluator.specs.Stored.{widthAt, widthsFrom, padded}
+use Rattle.evaluator.specs.Padded.{widthAt, widthsFrom, padded}
 use Rattle.value.specs.Fitting.{registerPlaces}
 
 from-length : (d : Dictionary) (n k : ℕ) → length (widthsFrom d k n) ≡ n

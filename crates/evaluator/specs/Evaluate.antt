@@ -16,7 +16,7 @@ use Rattle.description.specs.Description.{accepted, turnedDown, readText}
 use Rattle.evaluator.specs.declared.Answer.{Answer}
 use Rattle.evaluator.specs.declared.Outcome.{Outcome}
 use Rattle.evaluator.specs.declared.Outcome.the-variants.{Ran, Unread, Refused}
-use Rattle.evaluator.specs.Run.{Run, run}
+use Rattle.cycles.specs.Run.{Run, run}
 
 -- everything that a caller finds after the call, in document 01's numbers
 pub record Report : Type 0 where

@@ -1,5 +1,2 @@
-pub mod Cycle
-pub mod Rising
-pub mod Run
-pub mod Stored
+pub mod Padded
 pub mod Evaluate

@@ -7,7 +7,7 @@ ghost use Prim.Native.Nat.{ℕ, _≤_};
 ghost use Rattle.word.specs.Word.{widest};
 ghost use Rattle.state.specs.Refusals.{orElse};
 ghost use Rattle.state.specs.Checks.{checkRowList};
-ghost use Rattle.evaluator.specs.Stored.{widthAt, Widths, checkPadded};
+ghost use Rattle.evaluator.specs.Padded.{widthAt, Widths, checkPadded};
 
 // The width of the register at a place, 0 where there is none.
 fn width_at(d: Dictionary, place: usize) -> u64

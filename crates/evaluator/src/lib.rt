@@ -1,9 +1,9 @@
 // The evaluator: runs a description's rows, cycle by cycle, and lists the rows that acted.
 mod checks;
-mod cycle;
-mod run;
+mod list;
 
 use code::CODE_PLACES;
+use cycles::run;
 use declaration::faults::Fault;
 use description::reader;
 use plan::PLAN_PLACES;
@@ -18,7 +18,7 @@ ghost use Prim.Native.Nat.{_≤_};
 ghost use lib.ListN.{length};
 ghost use Rattle.state.specs.Limits.{memoryWords};
 ghost use Rattle.declaration.specs.Limits.{mostRows};
-ghost use Rattle.evaluator.specs.Stored.{coursing};
+ghost use Rattle.cycles.specs.Stored.{coursing};
 ghost use Rattle.evaluator.specs.Evaluate.{report, finished, evaluate as evaluation};
 
 // What came of a call.
@@ -55,7 +55,7 @@ fn run_rows(
 {
     let mut plan = [0u16; PLAN_PLACES];
     plan::plan_rows(code, table, count, &mut plan);
-    let mut list = [0u8; ROWS];
+    let mut acted = [0u8; ROWS];
     let end = run::run(
         &plan,
         code,
@@ -65,9 +65,9 @@ fn run_rows(
         registers,
         memory,
         budget,
-        &mut list,
+        &mut acted,
     );
-    run::put_rows(rows, &list, end.listed);
+    list::put_rows(rows, &acted, end.listed);
     let reason = end.reason;
     let after = end.registers;
     Answer {

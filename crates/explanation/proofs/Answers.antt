@@ -32,11 +32,11 @@ use Rattle.evaluator.specs.Evaluate as evaluator
 use Rattle.evaluator.specs.Evaluate.{evaluate, widthsOf}
 use Rattle.evaluator.specs.declared.Outcome.{Outcome}
 use Rattle.evaluator.specs.declared.Outcome.the-variants.{Ran, Unread, Refused}
-use Rattle.day_listing.specs.Listing.{endLine}
+use Rattle.last_lines.specs.LastLines.{endLine}
 use Rattle.entry.specs.Lines.{machineRegisters}
 use Rattle.characters.proofs.Tests.{by-test}
-use Rattle.shipped.specs.Text.{shippedText}
-use Rattle.shipped.specs.Shipped.{shipped}
+use Rattle.pdp8_rows.specs.Text.{shippedText}
+use Rattle.pdp8_rows.specs.Shipped.{shipped}
 use Rattle.shipped.specs.Claim.{Start, Claim, cyclesOf}
 use Rattle.shipped.proofs.Agree.{runs-agree}
 use Rattle.run_lines.specs.Registers.{registerLines}

@@ -13,7 +13,7 @@ use Rattle.state.specs.Acceptable.{Fitting}
 use Rattle.state.specs.declared.Verdict.{Verdict}
 use Rattle.state.proofs.Accepted.{acceptable-memory, fitting-registers, within-budget}
 use Rattle.machine.specs.State.{widths, values}
-use Rattle.day_listing.specs.Listing.{refusedLine}
+use Rattle.last_lines.specs.LastLines.{refusedLine}
 use Rattle.image.specs.Pass.{Countable}
 use Rattle.inquiry.specs.Input.{Inquiry}
 use Rattle.inquiry.specs.Scan.{Scan, unfitLine, scanOf}

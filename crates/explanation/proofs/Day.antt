@@ -12,16 +12,16 @@ use Rattle.pdp8.specs.Step.{execute, step}
 use Rattle.pdp8.specs.Run as steps
 use Rattle.page.specs.Text.{ascii, octal, decimalIn, decimal}
 use Rattle.day_listing.specs.Listing as listing
-use Rattle.day_listing.specs.Listing.{endLine}
+use Rattle.last_lines.specs.LastLines.{endLine}
 use Rattle.image.specs.Input.{clear}
 use Rattle.characters.specs.Characters as bytes
 use Rattle.characters.specs.Characters.{runEnd, same}
 use Rattle.constants.specs.Constants.{numberAt}
 use Rattle.fields.specs.Fields.{lines, field, hasFields}
 use Rattle.names.specs.Names.{find}
-use Rattle.evaluator.specs.Cycle.{cycleFrom}
-use Rattle.evaluator.specs.Run as cycles
-use Rattle.shipped.specs.Text.{shippedText}
+use Rattle.cycles.specs.Cycle.{cycleFrom}
+use Rattle.cycles.specs.Run as cycles
+use Rattle.pdp8_rows.specs.Text.{shippedText}
 use Rattle.entry.specs.Lines.{wordEntry, registerEntry, budgetEntry, said, entry}
 use Rattle.inquiry.specs.Input.{ready, entered, asked, firstUnfit}
 use Rattle.run_lines.specs.Rows.{rowTexts, rowLine, rowLines}

@@ -10,8 +10,8 @@ use Rattle.machine.specs.declared.Machine.{Machine}
 use Rattle.machine.specs.State.{values}
 use Rattle.page.specs.Text.{decimal}
 use Rattle.page.proofs.Numbers.{octal-length}
-use Rattle.day_listing.specs.Listing.{endLine}
-use Rattle.day_listing.proofs.Sizes.{end-line}
+use Rattle.last_lines.specs.LastLines.{endLine}
+use Rattle.last_lines.proofs.Sizes.{end-line}
 use Rattle.entry.specs.Lines.{machineRegisters}
 use Rattle.run_lines.specs.Registers.{registerLines, registerLinesBytes}
 

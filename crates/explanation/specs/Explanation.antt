@@ -11,7 +11,7 @@ use Rattle.state.specs.declared.Verdict.the-variants.{Fit, Unfit}
 use Rattle.machine.specs.declared.Machine.{Machine}
 use Rattle.machine.specs.State.{widths, values, start, registers}
 use Rattle.pdp8.specs.Run.{Run, run}
-use Rattle.day_listing.specs.Listing.{endLine, refusedLine}
+use Rattle.last_lines.specs.LastLines.{endLine, refusedLine}
 use Rattle.fields.specs.Fields.{lines}
 use Rattle.evaluator.specs.declared.Outcome.{Outcome}
 use Rattle.evaluator.specs.declared.Outcome.the-variants.{Ran, Unread, Refused}

@@ -1,5 +1,4 @@
 // The explanation of a run: what an inquiry asks for is run by emulator and evaluator, and the text of how it ended is written.
-use day_listing::lines;
 use entry::REGISTERS;
 use evaluator::Outcome;
 use inquiry::Scanner;
@@ -19,7 +18,7 @@ ghost use Rattle.word.specs.Choice.{choose};
 ghost use Rattle.state.specs.declared.Reason.the-variants.{Halted, Spent};
 ghost use Rattle.machine.specs.State.{values};
 ghost use Rattle.page.specs.Written.{Page};
-ghost use Rattle.day_listing.specs.Listing.{endLine};
+ghost use Rattle.last_lines.specs.LastLines.{endLine};
 ghost use Rattle.emulator.specs.Emulate as emulation;
 ghost use Rattle.evaluator.specs.Evaluate.{report};
 ghost use Rattle.shipped.specs.Claim.{Together};
@@ -106,7 +105,7 @@ fn put_answer(
     ensures { λ r. ⌜ Page (endLine steps (choose (m .run) Spent Halted) ++ registerLines machineRegisters (values m) ++ rowLines (take n (now (list .entry))))
         (now (page .entry)) (now (page .exit)) r ⌝ }
 {
-    let end = lines::put_end_line(page, 0, steps, m.run as u64);
+    let end = last_lines::put_end_line(page, 0, steps, m.run as u64);
     let last = registers::put_registers(page, end, m);
     rows::put_rows(page, last, list, n)
 }
@@ -141,7 +140,7 @@ pub fn explanation(memory: &[u16; MEMORY_WORDS], s: Scanner, page: &mut [u8; PAG
 {
     let refused = inquiry::unfit_line(s);
     if refused != 0 {
-        return lines::put_refused_line(page, refused);
+        return last_lines::put_refused_line(page, refused);
     }
     let rs = s.registers;
     answered(memory, machine_of(rs), s.budget, page)

@@ -92,7 +92,7 @@ fn read_operation(
     let row = tokens::operator_at(s, left.place);
     let end = tokens::operator_end(s, left.place);
     if strength == operators::entry_in(2).strength {
-        return code::rotated_part(s, code, row, left, width, end);
+        return compounds::rotated_part(s, code, row, left, width, end);
     }
     let start = Cursor {
         place: end,
@@ -100,7 +100,7 @@ fn read_operation(
         pieces: left.pieces,
     };
     match read_level(text, d, s, code, depth, strength + 1, start) {
-        Part::Found(right, other) => code::joined_part(code, row, left, width, right, other),
+        Part::Found(right, other) => compounds::joined_part(code, row, left, width, right, other),
         Part::Fault => Part::Fault,
     }
 }
@@ -137,7 +137,7 @@ fn read_operand(
     if characters::is_letter(first) {
         read_worded(text, d, s, code, depth, here)
     } else {
-        code::constant_part(s, code, here)
+        leaves::constant_part(s, code, here)
     }
 }
 
@@ -178,7 +178,7 @@ fn read_worded(
         };
         return read_enclosed(text, d, s, code, depth, b']', address);
     }
-    code::reference_part(text, d, s, code, c)
+    leaves::reference_part(text, d, s, code, c)
 }
 
 // What a Not stands before.
@@ -198,7 +198,7 @@ fn read_negated(
     if depth < DEEPEST {
         let strongest = operators::entry_in(0).strength;
         match read_level(text, d, s, code, depth + 1, strongest, c) {
-            Part::Found(operand, width) => code::complemented_part(code, operand, width),
+            Part::Found(operand, width) => compounds::complemented_part(code, operand, width),
             Part::Fault => Part::Fault,
         }
     } else {
@@ -223,7 +223,7 @@ fn read_enclosed(
 {
     if depth < DEEPEST {
         match read_level(text, d, s, code, depth + 1, 1, c) {
-            Part::Found(inner, width) => code::closed_part(s, code, inner, width, close),
+            Part::Found(inner, width) => compounds::closed_part(s, code, inner, width, close),
             Part::Fault => Part::Fault,
         }
     } else {

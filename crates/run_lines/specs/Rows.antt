@@ -7,7 +7,7 @@ use lib.ListN.{getD}
 use Rattle.page.specs.Text.{tab, lineFeed, decimal}
 use Rattle.page.specs.Written.{Written}
 use Rattle.fields.specs.Fields.{Line, lines}
-use Rattle.shipped.specs.Text.{shippedText}
+use Rattle.pdp8_rows.specs.Text.{shippedText}
 use Rattle.targets.specs.Targets.{isRow}
 
 -- "`do` and `go` lines are rows", as for the reader

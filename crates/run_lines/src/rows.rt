@@ -5,13 +5,13 @@ use fields::TAB;
 use page::put_byte;
 use page::put_decimal;
 use page::put_text;
-use shipped::DESCRIPTION_BYTES;
+use pdp8_rows::DESCRIPTION_BYTES;
 ghost use mathlib.Core.Path.{_≡_};
 ghost use Prim.Native.Nat.{_+_, _-_, _*_, _<_, _≤_};
 ghost use lib.ListN.{length, take};
 ghost use Rattle.word.specs.Choice.{pick};
 ghost use Rattle.page.specs.Written.{Written};
-ghost use Rattle.shipped.specs.Text.{shippedText};
+ghost use Rattle.pdp8_rows.specs.Text.{shippedText};
 ghost use Rattle.run_lines.specs.Rows.{rowOf, rowLine, rowLines, rowLineBytes, Listed};
 ghost use Rattle.run_lines.specs.Registers.{pageBytes};
 
@@ -64,7 +64,7 @@ pub fn put_rows(page: &mut [u8; PAGE_BYTES], at: usize, rows: &[u8], n: usize) -
     requires { ⌜ n ≤ length (now rows) ⌝ ∗ ⌜ at + rowLineBytes * n ≤ pageBytes ⌝ }
     ensures { λ r. ⌜ Listed (rowLines (take n (now (rows .entry)))) (now (page .entry)) at n (now (page .exit)) r ⌝ }
 {
-    let text = shipped::shipped_text();
+    let text = pdp8_rows::shipped_text();
     let mut end = at;
     let mut i = 0;
     while i < n {

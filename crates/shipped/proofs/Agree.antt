@@ -15,14 +15,14 @@ use Rattle.emulator.specs.Emulate as emulator
 use Rattle.emulator.specs.Emulate.{emulate}
 use Rattle.description.specs.Description as text
 use Rattle.value.specs.Value as rows
-use Rattle.evaluator.specs.Run as cycles
+use Rattle.cycles.specs.Run as cycles
 use Rattle.evaluator.specs.Evaluate as evaluator
 use Rattle.evaluator.specs.Evaluate.{evaluate, evaluateOf, check}
-use Rattle.shipped.specs.Text.{shippedText}
-use Rattle.shipped.specs.Shipped.{shipped}
+use Rattle.pdp8_rows.specs.Text.{shippedText}
+use Rattle.pdp8_rows.specs.Shipped.{shipped}
 use Rattle.shipped.specs.Claim.{machinePart, Start, Same, cyclesOf, Claim}
-use Rattle.shipped.proofs.Accepted.{shipped-accepted}
-use Rattle.shipped.proofs.Runs.{Alike, runs-alike}
+use Rattle.pdp8_rows.proofs.Accepted.{shipped-accepted}
+use Rattle.pdp8_rows.proofs.Runs.{Alike, runs-alike}
 use Rattle.shipped.proofs.Starts.{workOf, start-held, start-good, work-fits, emulator-passes, evaluator-passes}
 
 -- an answer by a check that found nothing

@@ -10,7 +10,7 @@ use Rattle.emulator.specs.Emulate.{emulate}
 use Rattle.declaration.specs.Limits.{mostRegisters}
 use Rattle.evaluator.specs.Evaluate as evaluator
 use Rattle.evaluator.specs.Evaluate.{evaluate}
-use Rattle.shipped.specs.Text.{shippedText}
+use Rattle.pdp8_rows.specs.Text.{shippedText}
 use Rattle.shipped.specs.Claim.{Together}
 use Rattle.shipped.proofs.Unrefused.{answers-agree}
 

@@ -15,15 +15,15 @@ use Rattle.pdp8.proofs.Runs.{halted-at-entry}
 use Rattle.emulator.specs.Emulate as emulator
 use Rattle.emulator.specs.Emulate.{emulate}
 use Rattle.value.specs.Value as rows
-use Rattle.evaluator.specs.Cycle.{cycle}
-use Rattle.evaluator.specs.Run as cycles
-use Rattle.evaluator.specs.Run.{running}
+use Rattle.cycles.specs.Cycle.{cycle}
+use Rattle.cycles.specs.Run as cycles
+use Rattle.cycles.specs.Run.{running}
 use Rattle.evaluator.specs.Evaluate as evaluator
 use Rattle.evaluator.specs.Evaluate.{evaluate}
-use Rattle.shipped.specs.Text.{shippedText}
-use Rattle.shipped.specs.Shipped.{shipped}
+use Rattle.pdp8_rows.specs.Text.{shippedText}
+use Rattle.pdp8_rows.specs.Shipped.{shipped}
 use Rattle.shipped.specs.Claim.{Start, Claim}
-use Rattle.shipped.proofs.Runs.{running-held}
+use Rattle.pdp8_rows.proofs.Runs.{running-held}
 use Rattle.shipped.proofs.Starts.{workOf, start-held}
 use Rattle.shipped.proofs.Agree.{runs-agree}
 

@@ -19,9 +19,13 @@ use Rattle.machine.specs.State.{widths, values, start, Good}
 use Rattle.emulator.proofs.Starts.{good-checked}
 use Rattle.value.specs.Value as rows
 use Rattle.evaluator.specs.Evaluate.{widthsOf, check}
-use Rattle.shipped.specs.Shipped.{shipped}
-use Rattle.shipped.specs.Claim.{Start}
-use Rattle.shipped.proofs.Held.{Work, Fit, held}
+use Rattle.pdp8_rows.specs.Shipped.{shipped}
+use Rattle.shipped.specs.Claim.{machinePart, Start}
+use Rattle.pdp8_rows.proofs.Held.{Work, Fit, held}
+
+-- "Machine registers, in this order, which begins the shipped description too"
+pub shipped-begins : machinePart (widthsOf shipped) ≡ widths
+shipped-begins = refl
 
 -- n places of a list one by one, then the places that follow
 abbrev spelled : ℕ → ℕ → List ℕ → List ℕ

@@ -17,10 +17,10 @@ use Rattle.emulator.specs.Emulate.{emulate}
 use Rattle.declaration.specs.Limits.{mostRegisters}
 use Rattle.description.specs.Description as text
 use Rattle.evaluator.specs.Evaluate.{Report, refused, finished, widthsOf, check, evaluateOf, evaluate}
-use Rattle.shipped.specs.Text.{shippedText}
-use Rattle.shipped.specs.Shipped.{shipped}
+use Rattle.pdp8_rows.specs.Text.{shippedText}
+use Rattle.pdp8_rows.specs.Shipped.{shipped}
 use Rattle.shipped.specs.Claim.{machinePart, Start, Same, cyclesOf, Claim}
-use Rattle.shipped.proofs.Accepted.{shipped-accepted}
+use Rattle.pdp8_rows.proofs.Accepted.{shipped-accepted}
 use Rattle.shipped.proofs.Agree.{runs-agree}
 
 abbrev number : Report → ℕ

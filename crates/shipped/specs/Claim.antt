@@ -14,11 +14,11 @@ use Rattle.emulator.specs.Emulate as emulator
 use Rattle.emulator.specs.Emulate.{emulate}
 use Rattle.declaration.specs.Limits.{mostRegisters}
 use Rattle.description.specs.Description.{accepted, readText}
-use Rattle.evaluator.specs.Run as cycles
+use Rattle.cycles.specs.Run as cycles
 use Rattle.evaluator.specs.Evaluate as evaluator
 use Rattle.evaluator.specs.Evaluate.{evaluate, widthsOf}
-use Rattle.shipped.specs.Text.{shippedText}
-use Rattle.shipped.specs.Shipped.{shipped}
+use Rattle.pdp8_rows.specs.Text.{shippedText}
+use Rattle.pdp8_rows.specs.Shipped.{shipped}
 
 -- the machine registers among the evaluator's places: "in this order, which begins the shipped description too"
 abbrev pub machinePart : List ℕ → List ℕ

@@ -7,9 +7,10 @@ use Rattle.description.specs.declared.reader.Verdict as reader
 use Rattle.description.specs.Stored.{answerBy}
 use Rattle.description.proofs.Formed.{accepted-keeps}
 use Rattle.value.specs.Value.{State}
-use Rattle.evaluator.specs.Run.{Run}
+use Rattle.cycles.specs.Run.{Run}
+use Rattle.cycles.proofs.TableRuns.{tables-run}
 use Rattle.evaluator.specs.Evaluate.{finished}
-use Rattle.evaluator.proofs.Entries.{widths-narrow, checked, check-fits, check-room, run-read, tables-run, text-refused, state-refused, evaluated}
+use Rattle.evaluator.proofs.Entries.{widths-narrow, checked, check-fits, check-room, run-read, text-refused, state-refused, evaluated}
 use borrow.Author.Needs.{needs}
 use Rattle.evaluator.proofs.evaluate.Statement.{statement}
 use Rattle.evaluator.proofs.evaluate.Tie as tie

@@ -13,7 +13,7 @@ use Rattle.day_listing.specs.Listing.{budget}
 use Rattle.day_listing.specs.Stepped.{pageBytes}
 use Rattle.page.proofs.Writing.{written-then, written-page}
 use Rattle.page.proofs.Numbers.{decimal-length}
-use Rattle.day_listing.proofs.Sizes.{end-line-size}
+use Rattle.last_lines.proofs.Sizes.{end-line-size}
 use Rattle.day_listing.proofs.Rest.{Listed, listed-none, listed-more, listed-all, run-listing}
 use Rattle.day_listing.proofs.run.put_run.Statement.{statement}
 use Rattle.day_listing.proofs.run.put_run.Tie as tie

@@ -3,7 +3,7 @@ use mathlib.Core.Path.{sym, ap, _∙_}
 use mathlib.Core.List.{List}
 use Prim.Native.Nat.{ℕ}
 use Rattle.state.specs.Checks.{checkState, checkRowList}
-use Rattle.evaluator.specs.Stored.{checkPadded}
+use Rattle.evaluator.specs.Padded.{checkPadded}
 use Rattle.evaluator.proofs.Padding.{padded-le, or-fit, or-unfit}
 use borrow.Author.Needs.{needs}
 use Rattle.evaluator.proofs.checks.check.Statement.{statement}

@@ -1,0 +1,18 @@
+-- `compounds::complemented_part`: Not puts one word behind its operand.
+use Rattle.compounds.proofs.Making.{turned-over}
+use borrow.Author.Needs.{needs}
+use Rattle.compounds.proofs.complemented_part.Statement.{statement}
+use Rattle.compounds.proofs.complemented_part.Tie as tie
+
+emit-requires : tie.Need-emit-requires
+emit-requires c κs = search needs
+
+one-more-requires : tie.Need-one-more-requires
+one-more-requires c κs = search needs
+
+returns : tie.Need-returns
+returns c =
+    rw (c .one-more .ensures, c .before .emit .ensures) (turned-over (c .before .before .before .args .c) (c .before .before .before .args .width) (c .before .before .before .args .code .now))
+
+pub complemented-part-spec : {M : Type 1} → statement M
+complemented-part-spec = tie.close (tie.spec emit-requires one-more-requires returns)

@@ -1,0 +1,45 @@
+-- `compounds::joined_part`: an operator puts one word behind its sides.
+use Rattle.compounds.proofs.Making.{joins, joins-not}
+use borrow.Author.Needs.{needs}
+use Rattle.compounds.proofs.joined_part.Statement.{statement}
+use Rattle.compounds.proofs.joined_part.Tie as tie
+
+entry-in-requires : tie.Need-entry-in-requires
+entry-in-requires c κs = search needs
+
+width-by-requires : tie.Need-width-by-requires
+width-by-requires c κs = search needs
+
+returns : tie.Need-returns
+returns c =
+    joins-not (c .before .before .before .args .row) (c .before .before .before .args .left) (c .before .before .before .args .width) (c .before .before .before .args .right) (c .before .before .before .args .other) (c .before .before .before .args .code .now) (c .before .before .before .args .code .now) (c .before .before .before .pre .0) (rw (c .before .width-by .ensures, c .before .before .entry-in .ensures) at (c .if1 .taken))
+
+cast-emit : tie.Need-cast-emit
+cast-emit c = search needs
+
+add-emit : tie.Need-add-emit
+add-emit c = search needs
+
+emit-requires : tie.Need-emit-requires
+emit-requires c κs = search needs
+
+one-more-requires : tie.Need-one-more-requires
+one-more-requires c κs = search needs
+
+returns-2 : tie.Need-returns-2
+returns-2 c =
+    rw (c .one-more .ensures, c .before .emit .ensures, c .before .before .before .before .width-by .ensures, c .before .before .before .before .before .entry-in .ensures)
+    (joins (c .before .before .before .before .before .before .args .row) (c .before .before .before .before .before .before .args .left) (c .before .before .before .before .before .before .args .width) (c .before .before .before .before .before .before .args .right) (c .before .before .before .before .before .before .args .other) (c .before .before .before .before .before .before .args .code .now) (c .before .before .before .before .before .before .pre .0) (rw (c .before .before .before .before .width-by .ensures, c .before .before .before .before .before .entry-in .ensures) at (c .before .before .before .if1 .left)))
+
+pub joined-part-spec : {M : Type 1} → statement M
+joined-part-spec =
+    tie.close
+    (tie.spec
+    entry-in-requires
+    width-by-requires
+    returns
+    cast-emit
+    add-emit
+    emit-requires
+    one-more-requires
+    returns-2)

@@ -1,0 +1,5 @@
+pub mod Cycles
+pub mod Tables
+pub mod TableRuns
+mod Turns
+mod Courses

@@ -1,0 +1,4 @@
+pub mod Cycle
+pub mod Rising
+pub mod Run
+pub mod Stored

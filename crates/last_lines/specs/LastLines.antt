@@ -1,0 +1,20 @@
+-- The last line of a run, and the one line of a refused text.
+-- Assumes nothing.
+use mathlib.Core.List.{List, [], _∷_, _++_}
+use Prim.Native.Nat.{ℕ}
+use Rattle.state.specs.declared.Reason.{Reason}
+use Rattle.state.specs.declared.Reason.the-variants.{Halted, Spent}
+use Rattle.page.specs.Text.{ascii, tab, lineFeed, decimal}
+
+-- "`halted` if RUN is 0 at the end, else `spent`"
+abbrev pub reasonWord : Reason → List ℕ
+reasonWord Halted = ascii "halted"
+reasonWord Spent = ascii "spent"
+
+-- "last, the steps done and the reason"
+unfoldable pub endLine : ℕ → Reason → List ℕ
+endLine steps reason = ascii "end\t" ++ decimal steps ++ tab ∷ reasonWord reason ++ lineFeed ∷ []
+
+-- "the output is only `refused`, TAB, the first such line's number"
+unfoldable pub refusedLine : ℕ → List ℕ
+refusedLine n = ascii "refused\t" ++ decimal n ++ lineFeed ∷ []

@@ -1,0 +1,30 @@
+-- The reader accepts the shipped text, and these are its registers and rows: the definition of reading, computed. They are within their limit.
+-- Assumes nothing.
+use mathlib.Core.Path.{_≡_, refl}
+use Prim.Native.Nat.{_≤_}
+use lib.Dec.{lit≤}
+use lib.ListN.{length}
+use Rattle.characters.specs.Characters.{run, runEnd, same}
+use Rattle.constants.specs.Constants.{numberAt, decimalAt, markedAt, shortestFrom, ofDecimal, constantAt}
+use Rattle.fields.specs.Fields.{lines, field, hasFields}
+use Rattle.names.specs.Names.{isName, find}
+use Rattle.operator_names.specs.OperatorNames.{findIn, operatorRow}
+use Rattle.tokens.specs.Tokens.{tokenEnd, operatorAt, operatorEnd}
+use Rattle.bit_parts.specs.References.{secondBit, firstBit, spanAt, partOf, registerAt, referenceAt}
+use Rattle.code.specs.Readings.{limited, ofReference, ofConstant, notOf, closed, turned, joined}
+use Rattle.grammar.specs.Grammar.{level}
+use Rattle.expression.specs.Expression.{whole, expression, ofName, ofAddress, memoryAt, destination}
+use Rattle.declaration.specs.Lines.{addRegister, regLine, addLabel, atLine}
+use Rattle.targets.specs.Targets.{passes}
+use Rattle.row.specs.Lines.{addRow, doRow, withRow, doLine, goRow, goLine}
+use Rattle.description.specs.Description.{accepted, finished, readLines, readText}
+use Rattle.line.specs.Line.{readLine}
+use Rattle.pdp8_rows.specs.Text.{shippedText}
+use Rattle.pdp8_rows.specs.Shipped.{mostShippedRows, shipped}
+
+pub shipped-accepted : readText shippedText ≡ accepted shipped
+unfolding run runEnd same numberAt decimalAt markedAt shortestFrom ofDecimal constantAt lines field hasFields isName find findIn operatorRow tokenEnd operatorAt operatorEnd secondBit firstBit spanAt partOf registerAt referenceAt limited ofReference ofConstant notOf closed turned joined level whole expression ofName ofAddress memoryAt destination addRegister regLine addRow doRow withRow doLine passes goRow goLine addLabel atLine readLine finished readLines readText shippedText
+shipped-accepted = refl
+
+pub shipped-short : length (shipped .rows) ≤ mostShippedRows
+shipped-short = lit≤ tt

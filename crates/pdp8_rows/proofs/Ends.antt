@@ -1,0 +1,93 @@
+-- Where rows end: from a state of the rows, the machine's state that they leave, with working registers that fit. A rule for each kind of row
+-- and of test. The judgement is nominal, so that rows, states and ends are compared and never half-run cycles.
+-- Assumes nothing.
+use mathlib.Core.Path.{_≡_, refl, sym, ap, _∙_, subst}
+use mathlib.Core.Bool.{Bool, true, false, not}
+use mathlib.Core.List.{List, [], _∷_}
+use Prim.Native.Nat.{ℕ}
+use lib.ListN.{drop}
+use Rattle.word.specs.Choice.{on, pick}
+use Rattle.word.proofs.Choice.{case-true, case-false}
+use Rattle.machine.specs.State.{State}
+use Rattle.code.specs.Tree.{Expr}
+use Rattle.expression.specs.Expression.{Destination}
+use Rattle.declaration.specs.Rows.{Row, does, goes}
+use Rattle.value.specs.Value as rows
+use Rattle.value.specs.Value.{value, store}
+use Rattle.pdp8_rows.proofs.Held.{Work, Fit, held}
+use Rattle.pdp8_rows.proofs.Plain.{plain, plain-drop}
+
+pub record Ends (rs : List Row) (s : rows.State) (o : State) : Type 0 where
+  pub left : Work
+  pub fits : Fit left
+  pub same : plain rs 0 s ≡ held o left
+
+-- past the last row
+pub past : {o : State} {w : Work} → Fit w → Ends [] (held o w) o
+unfolding plain
+past {o} {w} f = record { left = w; fits = f; same = refl }
+
+-- another name of the same state
+pub seen : {rs : List Row} {s t : rows.State} {o : State} → s ≡ t → Ends rs t o → Ends rs s o
+seen {rs} {s} {t} {o} p e = subst (λ (x : rows.State). Ends rs x o) (sym p) e
+
+module _ {c : Expr} {d : Destination} {e : Expr} {rs : List Row} where
+  -- a `do` that acts, and leaves t
+  pub acts : {s : rows.State} {o : State} (t : rows.State) → on (value s c) ≡ true → store s d (value s e) ≡ t → Ends rs t o → Ends (does c d e ∷ rs) s o
+  unfolding plain
+  acts {s} {o} t test eq r =
+      record {
+        left = r .left;
+        fits = r .fits;
+        same = case-true (on (value s c)) (plain rs 0 (store s d (value s e))) (plain rs 0 s) test ∙ ap (plain rs 0) eq ∙ r .same;
+      }
+
+  pub idles : {s : rows.State} {o : State} → on (value s c) ≡ false → Ends rs s o → Ends (does c d e ∷ rs) s o
+  unfolding plain
+  idles {s} {o} test r =
+      record {
+        left = r .left;
+        fits = r .fits;
+        same = case-false (on (value s c)) (plain rs 0 (store s d (value s e))) (plain rs 0 s) test ∙ r .same;
+      }
+
+  -- a `do` by a test, that turns f x into f y
+  pub moved : {A : Type 0} {o : State} (f : A → rows.State) (x y : A) (t : Bool) → on (value (f x) c) ≡ t → store (f x) d (value (f x) e) ≡ f y
+      → Ends rs (f (pick t y x)) o → Ends (does c d e ∷ rs) (f x) o
+  moved f x y true test eq r = acts (f y) test eq r
+  moved f x y false test eq r = idles test r
+
+module _ {c : Expr} {m : ℕ} {rs : List Row} where
+  -- a `go` that acts, and one that does not
+  pub jumps : {s : rows.State} {o : State} → on (value s c) ≡ true → Ends (drop m rs) s o → Ends (goes c m ∷ rs) s o
+  unfolding plain
+  jumps {s} {o} test r =
+      record {
+        left = r .left;
+        fits = r .fits;
+        same = case-true (on (value s c)) (plain rs m s) (plain rs 0 s) test ∙ plain-drop rs m s ∙ r .same;
+      }
+
+  pub stays : {s : rows.State} {o : State} → on (value s c) ≡ false → Ends rs s o → Ends (goes c m ∷ rs) s o
+  unfolding plain
+  stays {s} {o} test r =
+      record {
+        left = r .left;
+        fits = r .fits;
+        same = case-false (on (value s c)) (plain rs m s) (plain rs 0 s) test ∙ r .same;
+      }
+
+  -- a `go` by a test that decides the end
+  pub decides : {s : rows.State} (P : Bool → State) (t : Bool) → on (value s c) ≡ t → Ends (drop m rs) s (P true) → Ends rs s (P false) → Ends (goes c m ∷ rs) s (P t)
+  decides P true test a b = jumps test a
+  decides P false test a b = stays test b
+
+  -- the same where it goes if the test does not hold
+  pub unless : {s : rows.State} (P : Bool → State) (t : Bool) → on (value s c) ≡ not t → Ends (drop m rs) s (P false) → Ends rs s (P true) → Ends (goes c m ∷ rs) s (P t)
+  unless P true test a b = stays test b
+  unless P false test a b = jumps test a
+
+  -- the same by cases in what the machine still does
+  pub branches : {s : rows.State} {x y : State} (F : State → State) (t : Bool) → on (value s c) ≡ t → Ends (drop m rs) s (F x) → Ends rs s (F y)
+      → Ends (goes c m ∷ rs) s (F (elim t [ true ↦ x | false ↦ y ]))
+  branches {s} {x} {y} F t test a b = decides (λ u. F (elim u [ true ↦ x | false ↦ y ])) t test a b

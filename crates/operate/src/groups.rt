@@ -47,13 +47,17 @@ pub fn first_group(memory: &mut [u16], p: Processor, i: u64) -> Processor
     interrupt_test(memory, q)
 }
 
-// Op 7, bit 3 = 1, bit 11 = 0.
+// Op 7, bit 3 = 1, bit 11 = 0. Few instructions ask for SWITCHES or a halt.
 pub fn second_group(memory: &mut [u16], p: Processor, i: u64) -> Processor
     requires { ⌜ Good (at p (now memory)) ⌝ }
     ensures { λ r. ⌜ at r (now (memory .exit)) ≡ interruptTest (group2 i (at p (now (memory .entry)))) ⌝ }
 {
     let mut q = p;
     q.pc = skip(i, p.lac, p.pc);
+    if i / HLT % 4 == 0 {
+        q.lac = clear(i, p.lac);
+        return interrupt_test(memory, q);
+    }
     q.lac = or_switches(i, p.switches, clear(i, p.lac));
     q.run = halt(i, p.run);
     interrupt_test(memory, q)

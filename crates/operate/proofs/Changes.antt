@@ -1,15 +1,16 @@
 -- LAC stays within its 13 bits at each change that op 7 makes of it; most of its instructions ask for few of them.
 -- Assumes nothing.
-use mathlib.Core.Path.{_≡_}
-use Prim.Native.Nat.{ℕ, _+_, _%_, _^_, _<_}
+use mathlib.Core.Path.{_≡_, refl}
+use Prim.Native.Nat.{ℕ, zero, suc, _+_, _%_, _^_, _<_}
 use native.Mathlib.Omega.{arith}
 use lib.Bits.{or-lt}
 use lib.Dec.{lit<}
+use Rattle.word.specs.Choice.{choose}
 use Rattle.word.specs.Word.{wordBits, bits}
 use Rattle.word.proofs.Choice.{choose-either}
 use Rattle.word.proofs.Complement.{complement-lt}
 use Rattle.word.proofs.Rotation.{rotatedLeft-lt, rotatedRight-lt}
-use Rattle.machine.specs.State.{lacBits, ac, withoutAc}
+use Rattle.machine.specs.State.{lacBits, ac}
 use Rattle.machine.specs.Instruction.{flag}
 use Rattle.machine.proofs.Lac.{ac-lt, withAc-lt, withoutAc-lt, sum-narrow}
 use Rattle.operate.specs.Operate.{cleared, linkCleared, complemented, linkComplemented, increased, places, turnedLeft, turnedRight, rotated, changed, switched}
@@ -29,22 +30,33 @@ complemented-lt i {lac} h = choose-either Narrow (flag 6 i) (withAc-lt h (comple
 pub linkComplemented-lt : (i : ℕ) {lac : ℕ} → Narrow lac → Narrow (linkComplemented i lac)
 linkComplemented-lt i {lac} h = choose-either Narrow (flag 7 i) (sum-narrow (lac + 2 ^ wordBits)) h
 
+-- the sum with bit 11 itself
+bit-added : (b lac : ℕ) → b < 2 → Narrow lac → (lac + b) % 2 ^ lacBits ≡ choose b ((lac + 1) % 2 ^ lacBits) lac
+bit-added zero lac h n = omega arith
+bit-added (suc zero) lac h n = refl
+bit-added (suc (suc b)) lac h n = absurd (omega arith)
+
+pub increased-is : (i : ℕ) {lac : ℕ} → Narrow lac → (lac + flag 11 i) % 2 ^ lacBits ≡ increased i lac
+increased-is i {lac} n = bit-added (flag 11 i) lac (omega arith) n
+
 pub increased-lt : (i : ℕ) {lac : ℕ} → Narrow lac → Narrow (increased i lac)
 increased-lt i {lac} h = choose-either Narrow (flag 11 i) (sum-narrow (lac + 1)) h
 
--- two instructions with the same bits 4 to 7 ask for the same: the code's arm is tied to the instruction that has no other bit
-pub changed-alike : (i j lac : ℕ) {r : ℕ} → bits wordBits 4 7 i ≡ bits wordBits 4 7 j → r ≡ linkComplemented j (complemented j (linkCleared j (cleared j lac)))
-    → r ≡ linkComplemented i (complemented i (linkCleared i (cleared i lac)))
-changed-alike i j lac same made =
+-- two instructions with the same bits 4 and 5 clear the same, and two with the same bits 6 and 7 complement the same: the code's arm is tied
+-- to the instruction that has no other bit
+pub cleared-alike : (i j lac : ℕ) {r : ℕ} → bits wordBits 4 5 i ≡ bits wordBits 4 5 j → r ≡ linkCleared j (cleared j lac)
+    → r ≡ linkCleared i (cleared i lac)
+cleared-alike i j lac same made =
     let four : flag 4 i ≡ flag 4 j = omega (arith, same) in
     let five : flag 5 i ≡ flag 5 j = omega (arith, same) in
+    rw (four, five) made
+
+pub complemented-alike : (i j lac : ℕ) {r : ℕ} → bits wordBits 6 7 i ≡ bits wordBits 6 7 j → r ≡ linkComplemented j (complemented j lac)
+    → r ≡ linkComplemented i (complemented i lac)
+complemented-alike i j lac same made =
     let six : flag 6 i ≡ flag 6 j = omega (arith, same) in
     let seven : flag 7 i ≡ flag 7 j = omega (arith, same) in
-    rw (four, five, six, seven) made
-
--- where both are cleared nothing is left
-pub both-cleared : (lac : ℕ) → withoutAc lac % 2 ^ wordBits ≡ 0
-both-cleared lac = omega arith
+    rw (six, seven) made
 
 pub changed-lt : (i : ℕ) {lac : ℕ} → Narrow lac → Narrow (changed i lac)
 unfolding changed

@@ -1,4 +1,5 @@
-pub mod Arms
 pub mod Changes
+pub mod Masks
 pub mod Turns
+pub mod Skipped
 pub mod Keeps

@@ -1,4 +1,4 @@
--- The rotation of op 7 by the number that bits 8 to 11 make: the code's `match` on it is the definition's four tests.
+-- The rotation of op 7 by the number that bits 8 to 10 make: the code's `match` on it is the definition's three tests.
 -- Assumes nothing.
 use mathlib.Core.Path.{_≡_, refl, sym, ap, _∙_}
 use mathlib.Core.Bool.{Bool, true, false}
@@ -18,32 +18,21 @@ abbrev turned : Bool → Bool → ℕ → ℕ → ℕ
 turned right left n lac =
     pick right (rotatedRight lacBits n (pick left (rotatedLeft lacBits n lac) lac)) (pick left (rotatedLeft lacBits n lac) lac)
 
--- two instructions with the same bits 8 to 11 ask for the same: the code's arm is tied to the instruction that has no other bit
-pub turned-alike : (i j lac : ℕ) {r : ℕ} → bits wordBits 8 11 i ≡ bits wordBits 8 11 j → r ≡ turnedRight j (turnedLeft j (increased j lac))
-    → r ≡ rotated i (increased i lac)
+-- two instructions with the same bits 8 to 10 ask for the same: the code's arm is tied to the instruction that has no other bit
+pub turned-alike : (i j lac : ℕ) {r : ℕ} → bits wordBits 8 10 i ≡ bits wordBits 8 10 j → r ≡ turnedRight j (turnedLeft j lac) → r ≡ rotated i lac
 unfolding rotated
 turned-alike i j lac same made =
     let eight : flag 8 i ≡ flag 8 j = omega (arith, same) in
     let nine : flag 9 i ≡ flag 9 j = omega (arith, same) in
     let ten : flag 10 i ≡ flag 10 j = omega (arith, same) in
-    let eleven : flag 11 i ≡ flag 11 j = omega (arith, same) in
-    rw (eight, nine, ten, eleven) made
+    rw (eight, nine, ten) made
 
 -- both ways or neither is no change
 back : (b : Bool) (n : ℕ) {lac : ℕ} → lac < 2 ^ lacBits → turned b b n lac ≡ lac
 back true n h = left-then-right lacBits (lit< tt) n h
 back false n h = refl
 
-unrotated : (i : ℕ) {lac : ℕ} → lac < 2 ^ lacBits → flag 8 i ≡ flag 9 i → rotated i lac ≡ lac
+pub unrotated : (i : ℕ) {lac : ℕ} → lac < 2 ^ lacBits → flag 8 i ≡ flag 9 i → rotated i lac ≡ lac
 unfolding rotated
 unrotated i {lac} h same =
     ap (λ (b : ℕ). turned (on b) (on (flag 9 i)) (choose (flag 10 i) 2 1) lac) same ∙ back (on (flag 9 i)) (choose (flag 10 i) 2 1) h
-
--- so that of an instruction with both or neither bit 11 alone counts
-pub increased-alike : (i j : ℕ) {lac : ℕ} → lac < 2 ^ lacBits → bits wordBits 8 11 i ≡ bits wordBits 8 11 j → flag 8 j ≡ flag 9 j
-    → increased j lac ≡ rotated i (increased i lac)
-increased-alike i j {lac} h same both =
-    let eight : flag 8 i ≡ flag 8 j = omega (arith, same) in
-    let nine : flag 9 j ≡ flag 9 i = omega (arith, same) in
-    let eleven : flag 11 j ≡ flag 11 i = omega (arith, same) in
-    ap (λ (b : ℕ). choose b ((lac + 1) % 2 ^ lacBits) lac) eleven ∙ sym (unrotated i (increased-lt i h) (eight ∙ both ∙ nine))

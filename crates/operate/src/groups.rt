@@ -12,11 +12,13 @@ ghost use Rattle.word.specs.Word.{wordBits};
 ghost use Rattle.machine.specs.Instruction.{flag};
 ghost use Rattle.machine.specs.State.{at, lacBits, Good};
 ghost use Rattle.machine.specs.Interrupt.{interruptTest};
-ghost use Rattle.operate.specs.Operate.{group1, switched, group2, group3};
+ghost use Rattle.operate.specs.Operate.{switched, group2, group3, operate};
 
 const OSR: u64 = 0o4;
 
 const HLT: u64 = 0o2;
+
+const THIRD: u64 = 0o1;
 
 // Bit 9 ors SWITCHES into AC.
 fn or_switches(i: u64, switches: u64, lac: u64) -> u64
@@ -39,32 +41,48 @@ fn halt(i: u64, run: u64) -> u64
 
 // Op 7, bit 3 = 0.
 pub fn first_group(memory: &mut [u16], p: Processor, i: u64) -> Processor
-    requires { ⌜ Good (at p (now memory)) ⌝ }
-    ensures { λ r. ⌜ at r (now (memory .exit)) ≡ interruptTest (group1 i (at p (now (memory .entry)))) ⌝ }
+    requires { ⌜ Good (at p (now memory)) ⌝ ∗ ⌜ flag 3 i ≡ 0 ⌝ }
+    ensures { λ r. ⌜ at r (now (memory .exit)) ≡ interruptTest (operate i (at p (now (memory .entry)))) ⌝ }
 {
     let mut q = p;
     q.lac = increase_and_rotate(i, change(i, p.lac));
     interrupt_test(memory, q)
 }
 
-// Op 7, bit 3 = 1, bit 11 = 0.
-pub fn second_group(memory: &mut [u16], p: Processor, i: u64) -> Processor
+// Op 7, bit 3 = 1, bit 11 = 0. Few instructions ask for SWITCHES or a halt.
+fn second_group(memory: &mut [u16], p: Processor, i: u64) -> Processor
     requires { ⌜ Good (at p (now memory)) ⌝ }
     ensures { λ r. ⌜ at r (now (memory .exit)) ≡ interruptTest (group2 i (at p (now (memory .entry)))) ⌝ }
 {
     let mut q = p;
     q.pc = skip(i, p.lac, p.pc);
+    if i / HLT % 4 == 0 {
+        q.lac = clear(i, p.lac);
+        return interrupt_test(memory, q);
+    }
     q.lac = or_switches(i, p.switches, clear(i, p.lac));
     q.run = halt(i, p.run);
     interrupt_test(memory, q)
 }
 
 // Op 7, bit 3 = 1, bit 11 = 1.
-pub fn third_group(memory: &mut [u16], p: Processor, i: u64) -> Processor
+fn third_group(memory: &mut [u16], p: Processor, i: u64) -> Processor
     requires { ⌜ Good (at p (now memory)) ⌝ }
     ensures { λ r. ⌜ at r (now (memory .exit)) ≡ interruptTest (group3 i (at p (now (memory .entry)))) ⌝ }
 {
     let mut q = p;
     q.lac = clear(i, p.lac);
     interrupt_test(memory, q)
+}
+
+// Op 7, bit 3 = 1: bit 11 tells the third group from the second.
+pub fn other_groups(memory: &mut [u16], p: Processor, i: u64) -> Processor
+    requires { ⌜ Good (at p (now memory)) ⌝ ∗ ⌜ flag 3 i ≡ 1 ⌝ }
+    ensures { λ r. ⌜ at r (now (memory .exit)) ≡ interruptTest (operate i (at p (now (memory .entry)))) ⌝ }
+{
+    if i / THIRD % 2 != 0 {
+        third_group(memory, p, i)
+    } else {
+        second_group(memory, p, i)
+    }
 }

@@ -3,11 +3,11 @@
 -- Assumes nothing.
 use mathlib.Core.Path.{_≡_, refl, sym, ap, _∙_, subst}
 use mathlib.Core.Bool.{Bool, true, false}
-use Prim.Native.Nat.{ℕ, zero, suc, _+_, _-_, _≤_, _<_, suc-le-suc}
+use Prim.Native.Nat.{ℕ, zero, suc, _+_, _-_, _*_, _≤_, _<_, suc-le-suc}
 use native.Mathlib.Nat.{zero-add, add-zero, suc-add, add-suc, le-of-suc-le-suc, zero-lt-suc}
 use native.Mathlib.Numerals.{add-one}
 use native.Mathlib.Omega.{arith}
-use Rattle.word.specs.Choice.{on, pick}
+use Rattle.word.specs.Choice.{on, pick, choose}
 use Rattle.word.proofs.Choice.{case-true, case-false}
 use Rattle.state.specs.declared.Reason.{Reason}
 use Rattle.state.specs.declared.Reason.the-variants.{Halted, Spent}
@@ -44,10 +44,33 @@ run-on budget done s h e =
     ∙ run-step (budget - (done + 1)) done s e
     ∙ ap (λ (n : ℕ). runFrom (budget - (done + 1)) n (step s)) (sym (add-one done))
 
+-- a number times RUN: the bound that the loop's one test compares with
+pub bound-is : (n b : ℕ) → b < 2 → n * b ≡ choose b n 0
+bound-is n zero h = omega arith
+bound-is n (suc zero) h = omega arith
+bound-is n (suc (suc b)) h = absurd (omega arith)
+
+pub bound-le : (n b : ℕ) → b < 2 → n * b ≤ n
+bound-le n zero h = omega arith
+bound-le n (suc zero) h = omega arith
+bound-le n (suc (suc b)) h = absurd (omega arith)
+
+-- steps below it: RUN is 1, and it is the budget
+pub below-bound : (budget done end : ℕ) (b : Bool) → end ≡ pick b budget 0 → done < end → (done < budget) × (b ≡ true) × (end ≡ budget)
+below-bound budget done end true e h = (omega (arith, e, h), refl, e)
+below-bound budget done end false e h = absurd (omega (arith, e, h))
+
 -- by the two values of a test
 by-test : {P : Type 0} (b : Bool) → (b ≡ true → P) → (b ≡ false → P) → P
 by-test true yes₁ no₁ = yes₁ refl
 by-test false yes₁ no₁ = no₁ refl
+
+-- steps that reach it: RUN is 0, or the budget is done
+pub run-bound : (budget done end : ℕ) (s : State) → end ≡ choose (s .run) budget 0 → end ≤ done → runFrom (budget - done) done s ≡ ended done s
+run-bound budget done end s e h =
+    by-test (on (s .run))
+    (λ t. run-spent budget done s (let all : end ≡ budget = e ∙ ap (λ (b : Bool). pick b budget 0) t in omega (arith, all, h)))
+    (λ f. run-halted (budget - done) done s f)
 
 -- ---- whole runs
 

@@ -1,10 +1,12 @@
--- The three ways through a step: the instruction i that was fetched, with PC increased to n, by its op.
+-- The three ways through a step: the instruction i that was fetched, with PC increased to n, by its op, which its bits 0 to 3 tell.
 -- Assumes nothing.
 use mathlib.Core.Path.{_≡_, sym, ap, _∙_, subst}
-use Prim.Native.Nat.{ℕ}
+use Prim.Native.Nat.{ℕ, suc, _/_, _<_}
+use native.Mathlib.Omega.{arith}
+use borrow.Author.Tests.{ne-eqb}
 use lib.Dec.{eqb}
 use mathlib.Core.Bool.{true, false}
-use Rattle.word.specs.Word.{next}
+use Rattle.word.specs.Word.{wordBits, bits, next}
 use Rattle.word.proofs.Choice.{case-true, case-false}
 use Rattle.word.proofs.Next.{next-lt}
 use Rattle.machine.specs.State.{State, Good, word, withPc}
@@ -15,6 +17,20 @@ use Rattle.operate.specs.Operate.{operate}
 use Rattle.reference.specs.Reference.{reference}
 use Rattle.pdp8.specs.Step.{execute, step}
 
+-- bits 0 to 3 are op and one bit more
+pub op-of : (i n : ℕ) → bits wordBits 0 3 i / 2 ≡ n → op i ≡ n
+op-of i n key = omega (arith, key)
+
+pub below-6 : (i : ℕ) → bits wordBits 0 3 i < 12 → op i < 6
+below-6 i key = omega (arith, key)
+
+less : (n v : ℕ) → v < suc n → (v ≡ n → ⊥) → v < n
+less n v h other = omega (arith, h, other)
+
+-- what the four arms of ops 6 and 7 pass over
+pub passed-over : (v : ℕ) → v < 16 → (v ≡ 12 → ⊥) → (v ≡ 13 → ⊥) → (v ≡ 14 → ⊥) → (v ≡ 15 → ⊥) → v < 12
+passed-over v h a b c d = less 12 v (less 13 v (less 14 v (less 15 v h d) c) b) a
+
 module _ (s : State) (i n : ℕ) (fetched : i ≡ word (s .pc) s) (increased : n ≡ next (s .pc)) where
   pub counted-good : Good s → Good (withPc n s)
   counted-good g = subst (λ (x : ℕ). Good (withPc x s)) (sym increased) (pc-good (next-lt (s .pc)) g)
@@ -24,17 +40,20 @@ module _ (s : State) (i n : ℕ) (fetched : i ≡ word (s .pc) s) (increased : n
   execution =
       ap (λ (x : ℕ). execute i (s .pc) (withPc x s)) increased ∙ ap (λ (x : ℕ). execute x (s .pc) (withPc (next (s .pc)) s)) fetched
 
-  pub op-6 : eqb (op i) 6 ≡ true → inputOutput i (withPc n s) ≡ step s
+  pub op-6 : op i ≡ 6 → inputOutput i (withPc n s) ≡ step s
   unfolding execute
-  op-6 six = sym (case-true (eqb (op i) 6) _ _ six) ∙ execution
+  op-6 six = sym (case-true (eqb (op i) 6) _ _ (ap (λ (x : ℕ). eqb x 6) six)) ∙ execution
 
   other : eqb (op i) 6 ≡ false
       → interruptTest (elim (eqb (op i) 7) [ true ↦ operate i (withPc n s) | false ↦ reference i (s .pc) (withPc n s) ]) ≡ step s
   unfolding execute
   other six = sym (case-false (eqb (op i) 6) _ _ six) ∙ execution
 
-  pub op-7 : eqb (op i) 6 ≡ false → eqb (op i) 7 ≡ true → interruptTest (operate i (withPc n s)) ≡ step s
-  op-7 six seven = ap interruptTest (sym (case-true (eqb (op i) 7) _ _ seven)) ∙ other six
+  pub op-7 : op i ≡ 7 → interruptTest (operate i (withPc n s)) ≡ step s
+  op-7 seven =
+      ap interruptTest (sym (case-true (eqb (op i) 7) _ _ (ap (λ (x : ℕ). eqb x 7) seven))) ∙ other (ap (λ (x : ℕ). eqb x 6) seven)
 
-  pub ops-0-to-5 : eqb (op i) 6 ≡ false → eqb (op i) 7 ≡ false → interruptTest (reference i (s .pc) (withPc n s)) ≡ step s
-  ops-0-to-5 six seven = ap interruptTest (sym (case-false (eqb (op i) 7) _ _ seven)) ∙ other six
+  pub ops-0-to-5 : op i < 6 → interruptTest (reference i (s .pc) (withPc n s)) ≡ step s
+  ops-0-to-5 low =
+      ap interruptTest (sym (case-false (eqb (op i) 7) _ _ (ne-eqb (op i) 7 (λ e. omega (arith, e, low)))))
+      ∙ other (ne-eqb (op i) 6 (λ e. omega (arith, e, low)))

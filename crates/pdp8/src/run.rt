@@ -2,6 +2,8 @@
 use crate::step::step;
 use machine::Processor;
 ghost use mathlib.Core.Path.{_≡_};
+ghost use Prim.Native.Nat.{_<_};
+ghost use Rattle.word.specs.Choice.{choose};
 ghost use Rattle.machine.specs.State.{at, Good};
 ghost use Rattle.pdp8.specs.Run.{ended, run as runOf};
 
@@ -11,6 +13,14 @@ pub struct Progress {
     pub steps: u64,
 }
 
+// The number up to which steps are counted: none where RUN is 0. A product, so that the loop has one test and the machine one branch.
+fn bound(number: u64, run: u64) -> u64
+    requires { ⌜ run < 2 ⌝ }
+    ensures { λ r. ⌜ r ≡ choose run number 0 ⌝ }
+{
+    number * run
+}
+
 // A run of a budget.
 pub fn run(memory: &mut [u16], p: Processor, budget: u64) -> Progress
     requires { ⌜ Good (at p (now memory)) ⌝ }
@@ -18,9 +28,11 @@ pub fn run(memory: &mut [u16], p: Processor, budget: u64) -> Progress
 {
     let mut q = p;
     let mut steps = 0;
-    while steps < budget && q.run != 0 {
+    let mut end = bound(budget, p.run);
+    while steps < end {
         q = step(memory, q);
         steps += 1;
+        end = bound(end, q.run);
     }
     Progress {
         processor: q,

@@ -1,17 +1,58 @@
 -- An instruction of ops 0 to 5 whose address is worked out: its operation has the address and the memory that this left.
 -- Assumes nothing.
 use mathlib.Core.List.{List}
-use mathlib.Core.Path.{_≡_, sym, ap, _∙_}
-use Prim.Native.Nat.{ℕ, _^_, _<_}
-use Rattle.word.specs.Word.{wordBits}
+use mathlib.Core.Path.{_≡_, refl, sym, ap, _∙_}
+use Prim.Native.Nat.{ℕ, zero, suc, _+_, _*_, _%_, _^_, _≤_, _<_}
+use native.Mathlib.Omega.{arith}
+use Rattle.word.specs.Choice.{on}
+use Rattle.word.specs.Word.{wordBits, bits}
 use Rattle.machine.specs.declared.Processor.{Processor}
 use Rattle.machine.specs.State.{State, at, Good}
-use Rattle.machine.specs.Instruction.{op}
+use Rattle.machine.specs.Instruction.{op, ib}
 use Rattle.machine.specs.Interrupt.{interruptTest}
-use Rattle.reference.specs.Address.{afterIndexing, Addressed}
+use Rattle.reference.specs.Address.{firstAddress, afterIndexing, Addressed}
 use Rattle.reference.specs.Reference.{operation, reference}
-use Rattle.reference.proofs.Addresses.{effective-lt}
+use Rattle.reference.proofs.Addresses.{firstAddress-lt, effective-lt, direct}
 use Rattle.reference.proofs.Keeps.{indexing-good}
+
+-- bits 0 to 3 are op and ib
+even-op : (i n : ℕ) → bits wordBits 0 3 i ≡ n * 2 → op i ≡ n
+even-op i n key = omega (arith, key)
+
+even-ib : (i n : ℕ) → bits wordBits 0 3 i ≡ n * 2 → ib i ≡ 0
+even-ib i n key = omega (arith, key)
+
+pub odd-op : (i n : ℕ) → bits wordBits 0 3 i ≡ n * 2 + 1 → op i ≡ n
+odd-op i n key = omega (arith, key)
+
+odd-ib : (i : ℕ) → ib i ≡ 1 → bits wordBits 0 3 i % 2 ≡ 1
+odd-ib i odd = omega (arith, odd)
+
+ib-odd : (i b : ℕ) → bits wordBits 0 3 i % 2 ≡ suc b → ib i ≡ 1
+ib-odd i b same = omega (arith, same)
+
+-- v is none of the first n numbers that are b modulo 2
+abbrev Passed : ℕ → ℕ → ℕ → Type 0
+Passed b zero v = Unit
+Passed b (suc n) v = Passed b n v × (v ≡ n * 2 + b → ⊥)
+
+passed : (b n v : ℕ) → Passed b n v → v % 2 ≡ b → n * 2 ≤ v
+passed b zero v p same = omega arith
+passed b (suc n) v p same = let h = passed b n v (p .0) same in let other = p .1 in omega (arith, h, other, same)
+
+past : (i : ℕ) → op i < 6 → 6 * 2 ≤ bits wordBits 0 3 i → ⊥
+past i h most = omega (arith, most, h)
+
+-- ops 0 to 5 with ib = 1 are passed by every arm for ib = 0, and by no arm more
+pub ib-left : (i : ℕ) → op i < 6 → Passed 0 6 (bits wordBits 0 3 i) → ib i ≡ 1
+ib-left i h p = go (bits wordBits 0 3 i % 2) refl
+  where
+    go : (b : ℕ) → bits wordBits 0 3 i % 2 ≡ b → ib i ≡ 1
+    go zero same = absurd (past i h (passed 0 6 (bits wordBits 0 3 i) p same))
+    go (suc b) same = ib-odd i b same
+
+pub none-left : (i : ℕ) → op i < 6 → ib i ≡ 1 → Passed 1 6 (bits wordBits 0 3 i) → ⊥
+none-left i h odd p = past i h (passed 1 6 (bits wordBits 0 3 i) p (odd-ib i odd))
 
 module _ (i last e : ℕ) (p : Processor) (before after : List ℕ) (found : Addressed i last before after e) where
   -- the operation may begin
@@ -26,3 +67,12 @@ module _ (i last e : ℕ) (p : Processor) (before after : List ℕ) (found : Add
       ∙ ap (λ (k : ℕ). interruptTest (operation k e (at p after))) (sym same)
       ∙ ap (λ (m : List ℕ). interruptTest (operation (op i) e (at p m))) (found .memory)
       ∙ ap (λ (a : ℕ). interruptTest (operation (op i) a (at p (afterIndexing i last before)))) (found .address)
+
+-- the same of an instruction with ib = 0, whose address is the first one
+module _ (i last first n : ℕ) (p : Processor) (memory : List ℕ) (found : first ≡ firstAddress i last) (key : bits wordBits 0 3 i ≡ n * 2) where
+  pub first-ready : Good (at p memory) → Good (at p memory) × (first < 2 ^ wordBits)
+  first-ready g = (g, rw found (firstAddress-lt i last))
+
+  pub first-performed : (left : State) → left ≡ interruptTest (operation n first (at p memory)) → left ≡ interruptTest (reference i last (at p memory))
+  first-performed left eq =
+      performed i last first p memory memory (direct i last first memory found (ap on (even-ib i n key))) n left (even-op i n key) eq

@@ -6,12 +6,10 @@ ghost use Prim.Native.Nat.{_^_, _<_};
 ghost use Rattle.word.specs.Choice.{choose};
 ghost use Rattle.word.specs.Word.{wordBits, bits};
 ghost use Rattle.state.specs.Acceptable.{Acceptable};
-ghost use Rattle.machine.specs.Instruction.{pb};
+ghost use Rattle.machine.specs.Instruction.{ib, pb};
 ghost use Rattle.reference.specs.Address.{address, firstAddress, indexed, Addressed};
 
-// Bit 3, ib, and bit 4, pb.
-const INDIRECT: u64 = 0o400;
-
+// Bit 4, pb.
 const CURRENT: u64 = 0o200;
 
 // One of the 32 pages.
@@ -39,8 +37,8 @@ fn page(i: u64, last: u64) -> u64
     }
 }
 
-// The address before any indirection.
-fn first_address(i: u64, last: u64) -> u64
+// The address before any indirection, which an instruction with ib = 0 works on.
+pub fn first_address(i: u64, last: u64) -> u64
     ensures { λ r. ⌜ r ≡ firstAddress i last ⌝ }
 {
     joined(PageNumber(page(i, last)), PageAddress(i % 128))
@@ -57,16 +55,12 @@ fn auto_index(memory: &mut [u16], a: u64)
     }
 }
 
-// The address that the instruction works on. Auto-indexing may have changed a word on the way.
-pub fn effective_address(memory: &mut [u16], i: u64, last: u64) -> u64
-    requires { ⌜ Acceptable (now memory) ⌝ ∗ ⌜ i < 2 ^ wordBits ⌝ ∗ ⌜ last < 2 ^ wordBits ⌝ }
+// The address that an instruction with ib = 1 works on. Auto-indexing may have changed a word on the way.
+pub fn indirect_address(memory: &mut [u16], i: u64, last: u64) -> u64
+    requires { ⌜ Acceptable (now memory) ⌝ ∗ ⌜ ib i ≡ 1 ⌝ }
     ensures { λ r. ⌜ Addressed i last (now (memory .entry)) (now (memory .exit)) r ⌝ }
 {
     let first = first_address(i, last);
-    if i / INDIRECT % 2 != 0 {
-        auto_index(memory, first);
-        load(memory, first)
-    } else {
-        first
-    }
+    auto_index(memory, first);
+    load(memory, first)
 }

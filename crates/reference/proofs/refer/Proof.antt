@@ -1,59 +1,64 @@
--- `reference::refer`: the address is worked out once, and the op's function has it and the memory that it left.
+-- `reference::refer`: where ib is 0 the op's function has the first address.
 use denote.Ref.{now}
-use native.Mathlib.Omega.{arith}
 use Rattle.reference.specs.Reference.{operation}
-use Rattle.reference.proofs.Refers.{ready, performed}
+use Rattle.reference.proofs.Refers.{ib-left, first-ready, first-performed}
 use borrow.Author.Needs.{needs}
 use Rattle.reference.proofs.refer.Statement.{statement}
 use Rattle.reference.proofs.refer.Tie as tie
 
-effective-address-requires : tie.Need-effective-address-requires
-effective-address-requires c κs = search needs
+first-address-requires : tie.Need-first-address-requires
+first-address-requires c κs = search needs
 
 and-to-requires : tie.Need-and-to-requires
 and-to-requires c κs =
-    let begin = c .before .before .before .before .before .before .before in
-    ready (begin .args .i) (begin .args .last) _ (begin .args .p) (now (begin .args .memory)) _ (c .before .before .before .effective-address .ensures) (begin .pre .0)
+    let begin = c .before .before .before .before in
+    first-ready (begin .args .i) (begin .args .last) _ 0 (begin .args .p) (now (begin .args .memory)) (c .first-address .ensures) (c .before .before .match .keys1) (begin .pre .0)
 
-effective-address-requires-2 : tie.Need-effective-address-requires-2
-effective-address-requires-2 c κs = search needs
+first-address-requires-2 : tie.Need-first-address-requires-2
+first-address-requires-2 c κs = search needs
 
 add-to-requires : tie.Need-add-to-requires
 add-to-requires c κs =
-    let begin = c .before .before .before .before .before .before .before in
-    ready (begin .args .i) (begin .args .last) _ (begin .args .p) (now (begin .args .memory)) _ (c .before .before .before .effective-address2 .ensures) (begin .pre .0)
+    let begin = c .before .before .before .before in
+    first-ready (begin .args .i) (begin .args .last) _ 1 (begin .args .p) (now (begin .args .memory)) (c .first-address2 .ensures) (c .before .before .match .keys2) (begin .pre .0)
 
-effective-address-requires-3 : tie.Need-effective-address-requires-3
-effective-address-requires-3 c κs = search needs
+first-address-requires-3 : tie.Need-first-address-requires-3
+first-address-requires-3 c κs = search needs
 
 increment-and-skip-requires : tie.Need-increment-and-skip-requires
 increment-and-skip-requires c κs =
-    let begin = c .before .before .before .before .before .before .before in
-    ready (begin .args .i) (begin .args .last) _ (begin .args .p) (now (begin .args .memory)) _ (c .before .before .before .effective-address3 .ensures) (begin .pre .0)
+    let begin = c .before .before .before .before in
+    first-ready (begin .args .i) (begin .args .last) _ 2 (begin .args .p) (now (begin .args .memory)) (c .first-address3 .ensures) (c .before .before .match .keys3) (begin .pre .0)
 
-effective-address-requires-4 : tie.Need-effective-address-requires-4
-effective-address-requires-4 c κs = search needs
+first-address-requires-4 : tie.Need-first-address-requires-4
+first-address-requires-4 c κs = search needs
 
 deposit-at-requires : tie.Need-deposit-at-requires
 deposit-at-requires c κs =
-    let begin = c .before .before .before .before .before .before .before in
-    ready (begin .args .i) (begin .args .last) _ (begin .args .p) (now (begin .args .memory)) _ (c .before .before .before .effective-address4 .ensures) (begin .pre .0)
+    let begin = c .before .before .before .before in
+    first-ready (begin .args .i) (begin .args .last) _ 3 (begin .args .p) (now (begin .args .memory)) (c .first-address4 .ensures) (c .before .before .match .keys4) (begin .pre .0)
 
-effective-address-requires-5 : tie.Need-effective-address-requires-5
-effective-address-requires-5 c κs = search needs
+first-address-requires-5 : tie.Need-first-address-requires-5
+first-address-requires-5 c κs = search needs
 
 call-at-requires : tie.Need-call-at-requires
 call-at-requires c κs =
-    let begin = c .before .before .before .before .before .before .before in
-    ready (begin .args .i) (begin .args .last) _ (begin .args .p) (now (begin .args .memory)) _ (c .before .before .before .effective-address5 .ensures) (begin .pre .0)
+    let begin = c .before .before .before .before in
+    first-ready (begin .args .i) (begin .args .last) _ 4 (begin .args .p) (now (begin .args .memory)) (c .first-address5 .ensures) (c .before .before .match .keys5) (begin .pre .0)
 
-effective-address-requires-6 : tie.Need-effective-address-requires-6
-effective-address-requires-6 c κs = search needs
+first-address-requires-6 : tie.Need-first-address-requires-6
+first-address-requires-6 c κs = search needs
 
 jump-to-requires : tie.Need-jump-to-requires
 jump-to-requires c κs =
-    let begin = c .before .before .before .before .before .before .before in
-    ready (begin .args .i) (begin .args .last) _ (begin .args .p) (now (begin .args .memory)) _ (c .before .before .before .effective-address6 .ensures) (begin .pre .0)
+    let begin = c .before .before .before .before in
+    first-ready (begin .args .i) (begin .args .last) _ 5 (begin .args .p) (now (begin .args .memory)) (c .first-address6 .ensures) (c .before .before .match .keys6) (begin .pre .0)
+
+-- else ib is 1
+refer-indirectly-requires : tie.Need-refer-indirectly-requires
+refer-indirectly-requires c κs =
+    let begin = c .before .before .before in
+    (begin .pre .0, (begin .pre .1 .1 .1, ib-left (begin .args .i) (begin .pre .1 .1 .1) (c .before .match .rest)))
 
 same-length : tie.Need-same-length
 same-length c = search needs
@@ -61,8 +66,8 @@ same-length c = search needs
 returns : tie.Need-returns
 unfolding operation
 returns c =
-    let begin = c .before .before .before .before .before .before .before .before .before .before .args in
-    performed (begin .i) (begin .last) _ (begin .p) (now (begin .memory)) _ (c .before .before .before .before .before .before .effective-address .ensures) 0 _ (c .before .before .before .before .before .before .before .before .match .keys1) (c .before .before .and-to .ensures)
+    let begin = c .before .before .before .before .before .before .before .args in
+    first-performed (begin .i) (begin .last) _ 0 (begin .p) (now (begin .memory)) (c .before .before .before .first-address .ensures) (c .before .before .before .before .before .match .keys1) _ (c .before .before .and-to .ensures)
 
 same-length-2 : tie.Need-same-length-2
 same-length-2 c = search needs
@@ -70,8 +75,8 @@ same-length-2 c = search needs
 returns-2 : tie.Need-returns-2
 unfolding operation
 returns-2 c =
-    let begin = c .before .before .before .before .before .before .before .before .before .before .args in
-    performed (begin .i) (begin .last) _ (begin .p) (now (begin .memory)) _ (c .before .before .before .before .before .before .effective-address2 .ensures) 1 _ (c .before .before .before .before .before .before .before .before .match .keys2) (c .before .before .add-to .ensures)
+    let begin = c .before .before .before .before .before .before .before .args in
+    first-performed (begin .i) (begin .last) _ 1 (begin .p) (now (begin .memory)) (c .before .before .before .first-address2 .ensures) (c .before .before .before .before .before .match .keys2) _ (c .before .before .add-to .ensures)
 
 same-length-3 : tie.Need-same-length-3
 same-length-3 c = search needs
@@ -79,8 +84,8 @@ same-length-3 c = search needs
 returns-3 : tie.Need-returns-3
 unfolding operation
 returns-3 c =
-    let begin = c .before .before .before .before .before .before .before .before .before .before .args in
-    performed (begin .i) (begin .last) _ (begin .p) (now (begin .memory)) _ (c .before .before .before .before .before .before .effective-address3 .ensures) 2 _ (c .before .before .before .before .before .before .before .before .match .keys3) (c .before .before .increment-and-skip .ensures)
+    let begin = c .before .before .before .before .before .before .before .args in
+    first-performed (begin .i) (begin .last) _ 2 (begin .p) (now (begin .memory)) (c .before .before .before .first-address3 .ensures) (c .before .before .before .before .before .match .keys3) _ (c .before .before .increment-and-skip .ensures)
 
 same-length-4 : tie.Need-same-length-4
 same-length-4 c = search needs
@@ -88,8 +93,8 @@ same-length-4 c = search needs
 returns-4 : tie.Need-returns-4
 unfolding operation
 returns-4 c =
-    let begin = c .before .before .before .before .before .before .before .before .before .before .args in
-    performed (begin .i) (begin .last) _ (begin .p) (now (begin .memory)) _ (c .before .before .before .before .before .before .effective-address4 .ensures) 3 _ (c .before .before .before .before .before .before .before .before .match .keys4) (c .before .before .deposit-at .ensures)
+    let begin = c .before .before .before .before .before .before .before .args in
+    first-performed (begin .i) (begin .last) _ 3 (begin .p) (now (begin .memory)) (c .before .before .before .first-address4 .ensures) (c .before .before .before .before .before .match .keys4) _ (c .before .before .deposit-at .ensures)
 
 same-length-5 : tie.Need-same-length-5
 same-length-5 c = search needs
@@ -97,8 +102,8 @@ same-length-5 c = search needs
 returns-5 : tie.Need-returns-5
 unfolding operation
 returns-5 c =
-    let begin = c .before .before .before .before .before .before .before .before .before .before .args in
-    performed (begin .i) (begin .last) _ (begin .p) (now (begin .memory)) _ (c .before .before .before .before .before .before .effective-address5 .ensures) 4 _ (c .before .before .before .before .before .before .before .before .match .keys5) (c .before .before .call-at .ensures)
+    let begin = c .before .before .before .before .before .before .before .args in
+    first-performed (begin .i) (begin .last) _ 4 (begin .p) (now (begin .memory)) (c .before .before .before .first-address5 .ensures) (c .before .before .before .before .before .match .keys5) _ (c .before .before .call-at .ensures)
 
 same-length-6 : tie.Need-same-length-6
 same-length-6 c = search needs
@@ -106,29 +111,32 @@ same-length-6 c = search needs
 returns-6 : tie.Need-returns-6
 unfolding operation
 returns-6 c =
-    let begin = c .before .before .before .before .before .before .before .before .before .before .args in
-    performed (begin .i) (begin .last) _ (begin .p) (now (begin .memory)) _ (c .before .before .before .before .before .before .effective-address6 .ensures) 5 _ (c .before .before .before .before .before .before .before .before .match .keys6) (c .before .before .jump-to .ensures)
+    let begin = c .before .before .before .before .before .before .before .args in
+    first-performed (begin .i) (begin .last) _ 5 (begin .p) (now (begin .memory)) (c .before .before .before .first-address6 .ensures) (c .before .before .before .before .before .match .keys6) _ (c .before .before .jump-to .ensures)
 
--- no other op comes here
+same-length-7 : tie.Need-same-length-7
+same-length-7 c = search needs
+
 returns-7 : tie.Need-returns-7
-returns-7 c = absurd (omega (arith, c .match .rest, c .before .before .pre))
+returns-7 c = c .before .before .refer-indirectly .ensures
 
 pub refer-spec : {M : Type 1} → statement M
 refer-spec =
     tie.close
     (tie.spec
-    effective-address-requires
+    first-address-requires
     and-to-requires
-    effective-address-requires-2
+    first-address-requires-2
     add-to-requires
-    effective-address-requires-3
+    first-address-requires-3
     increment-and-skip-requires
-    effective-address-requires-4
+    first-address-requires-4
     deposit-at-requires
-    effective-address-requires-5
+    first-address-requires-5
     call-at-requires
-    effective-address-requires-6
+    first-address-requires-6
     jump-to-requires
+    refer-indirectly-requires
     same-length
     returns
     same-length-2
@@ -141,4 +149,5 @@ refer-spec =
     returns-5
     same-length-6
     returns-6
+    same-length-7
     returns-7)

@@ -1,10 +1,13 @@
 -- `operate::first_group` changes, then increases and rotates, then makes the interrupt test.
-use mathlib.Core.Path.{ap, _∙_}
+use mathlib.Core.Path.{sym, ap, _∙_}
 use Prim.Native.Nat.{ℕ}
 use denote.Ref.{now}
 use Rattle.machine.specs.State.{at, withLac}
 use Rattle.machine.specs.Interrupt.{interruptTest}
-use Rattle.operate.specs.Operate.{increased, changed, rotated, group1}
+use Rattle.word.specs.Choice.{on}
+use Rattle.word.proofs.Choice.{case-false}
+use Rattle.machine.specs.Instruction.{flag}
+use Rattle.operate.specs.Operate.{increased, changed, rotated, group1, operate}
 use Rattle.operate.proofs.Changes.{cleared-lt, linkCleared-lt, complemented-lt, linkComplemented-lt}
 use borrow.Author.Needs.{needs}
 use Rattle.operate.proofs.groups.first_group.Statement.{statement}
@@ -16,7 +19,7 @@ change-requires c κs = search needs
 increase-and-rotate-requires : tie.Need-increase-and-rotate-requires
 increase-and-rotate-requires c κs = let begin = c .before .before in
     let i = begin .args .i in
-    rw (c .change .ensures) (linkComplemented-lt i (complemented-lt i (linkCleared-lt i (cleared-lt i (begin .pre .lac)))))
+    rw (c .change .ensures) (linkComplemented-lt i (complemented-lt i (linkCleared-lt i (cleared-lt i (begin .pre .0 .lac)))))
 
 interrupt-test-requires : tie.Need-interrupt-test-requires
 interrupt-test-requires c κs = search needs
@@ -25,12 +28,14 @@ same-length : tie.Need-same-length
 same-length c = search needs
 
 returns : tie.Need-returns
-unfolding group1 changed
+unfolding operate group1 changed
 returns c =
-    let begin = c .before .before .before .before .before .before .before .args in
-    let s = at (begin .p) (now (begin .memory)) in
+    let begin = c .before .before .before .before .before .before .before in
+    let i = begin .args .i in
+    let s = at (begin .args .p) (now (begin .args .memory)) in
     c .before .before .interrupt-test .ensures
-    ∙ ap (λ (x : ℕ). interruptTest (withLac x s)) (c .before .before .before .before .increase-and-rotate .ensures ∙ ap (λ (x : ℕ). rotated (begin .i) (increased (begin .i) x)) (c .before .before .before .before .before .change .ensures))
+    ∙ ap (λ (x : ℕ). interruptTest (withLac x s)) (c .before .before .before .before .increase-and-rotate .ensures ∙ ap (λ (x : ℕ). rotated i (increased i x)) (c .before .before .before .before .before .change .ensures))
+    ∙ ap interruptTest (sym (case-false (on (flag 3 i)) _ (group1 i s) (ap on (begin .pre .1))))
 
 pub first-group-spec : {M : Type 1} → statement M
 first-group-spec =

@@ -1,12 +1,11 @@
 -- `step::step` fetches, increases PC and goes by the op.
-use mathlib.Core.Path.{_∙_, ap}
+use mathlib.Core.Path.{_≡_, _∙_}
 use denote.Ref.{now}
-use lib.Dec.{eqb}
 use native.Mathlib.Omega.{arith}
-use borrow.Author.Tests.{ne-eqb}
 use borrow.Author.Needs.{needs}
 use Rattle.machine.specs.State.{at}
-use Rattle.pdp8.proofs.Steps.{counted-good, op-6, op-7, ops-0-to-5}
+use Rattle.machine.specs.Instruction.{flag}
+use Rattle.pdp8.proofs.Steps.{op-of, below-6, passed-over, counted-good, op-6, op-7, ops-0-to-5}
 use Rattle.pdp8.proofs.step.step.Statement.{statement}
 use Rattle.pdp8.proofs.step.step.Tie as tie
 
@@ -19,16 +18,29 @@ increment-requires c κs = search needs
 input-output-requires : tie.Need-input-output-requires
 input-output-requires c κs = search needs
 
-operated-requires : tie.Need-operated-requires
-operated-requires c κs =
-    let begin = c .before .before .before .before .before .before in
-    counted-good (at (begin .args .p) (now (begin .args .memory))) _ _ (c .before .before .before .load .ensures) (c .before .before .increment .ensures) (begin .pre)
+input-output-requires-2 : tie.Need-input-output-requires-2
+input-output-requires-2 c κs = search needs
+
+first-group-requires : tie.Need-first-group-requires
+first-group-requires c κs =
+    let begin = c .before .before .before .before .before .before in (
+      counted-good (at (begin .args .p) (now (begin .args .memory))) _ _ (c .before .before .before .load .ensures) (c .before .before .increment .ensures) (begin .pre),
+      omega (arith, c .before .match .keys3),
+    )
+
+other-groups-requires : tie.Need-other-groups-requires
+other-groups-requires c κs =
+    let begin = c .before .before .before .before .before .before in (
+      counted-good (at (begin .args .p) (now (begin .args .memory))) _ _ (c .before .before .before .load .ensures) (c .before .before .increment .ensures) (begin .pre),
+      omega (arith, c .before .match .keys4),
+    )
 
 refer-requires : tie.Need-refer-requires
 refer-requires c κs =
-    let begin = c .before .before .before .before .before .before in (
+    let begin = c .before .before .before .before .before .before in
+    let no = c .before .match .rest in (
       counted-good (at (begin .args .p) (now (begin .args .memory))) _ _ (c .before .before .before .load .ensures) (c .before .before .increment .ensures) (begin .pre),
-      (rw (c .before .before .before .load .ensures) (begin .pre .memory .words (begin .args .p .pc)), (begin .pre .pc, omega (arith, c .before .match .rest))),
+      (rw (c .before .before .before .load .ensures) (begin .pre .memory .words (begin .args .p .pc)), (begin .pre .pc, below-6 _ (passed-over _ (omega arith) (no .0 .0 .0 .1) (no .0 .0 .1) (no .0 .1) (no .1)))),
     )
 
 same-length : tie.Need-same-length
@@ -39,7 +51,7 @@ returns c =
     let begin = c .before .before .before .before .before .before .before .before .before .args in
     c .before .before .input-output .ensures
     ∙ op-6 (at (begin .p) (now (begin .memory))) _ _ (c .before .before .before .before .before .before .load .ensures) (c .before .before .before .before .before .increment .ensures)
-    (ap (λ x. eqb x 6) (c .before .before .before .before .match .keys1))
+    (op-of _ 6 (omega (arith, c .before .before .before .before .match .keys1)))
 
 same-length-2 : tie.Need-same-length-2
 same-length-2 c = search needs
@@ -47,9 +59,9 @@ same-length-2 c = search needs
 returns-2 : tie.Need-returns-2
 returns-2 c =
     let begin = c .before .before .before .before .before .before .before .before .before .args in
-    c .before .before .operated .ensures
-    ∙ op-7 (at (begin .p) (now (begin .memory))) _ _ (c .before .before .before .before .before .before .load .ensures) (c .before .before .before .before .before .increment .ensures)
-    (ap (λ x. eqb x 6) (c .before .before .before .before .match .keys2)) (ap (λ x. eqb x 7) (c .before .before .before .before .match .keys2))
+    c .before .before .input-output2 .ensures
+    ∙ op-6 (at (begin .p) (now (begin .memory))) _ _ (c .before .before .before .before .before .before .load .ensures) (c .before .before .before .before .before .increment .ensures)
+    (op-of _ 6 (omega (arith, c .before .before .before .before .match .keys2)))
 
 same-length-3 : tie.Need-same-length-3
 same-length-3 c = search needs
@@ -57,10 +69,29 @@ same-length-3 c = search needs
 returns-3 : tie.Need-returns-3
 returns-3 c =
     let begin = c .before .before .before .before .before .before .before .before .before .args in
-    let no = c .before .before .before .before .match .rest in
+    c .before .before .first-group .ensures
+    ∙ op-7 (at (begin .p) (now (begin .memory))) _ _ (c .before .before .before .before .before .before .load .ensures) (c .before .before .before .before .before .increment .ensures)
+    (op-of _ 7 (omega (arith, c .before .before .before .before .match .keys3)))
+
+same-length-4 : tie.Need-same-length-4
+same-length-4 c = search needs
+
+returns-4 : tie.Need-returns-4
+returns-4 c =
+    let begin = c .before .before .before .before .before .before .before .before .before .args in
+    c .before .before .other-groups .ensures
+    ∙ op-7 (at (begin .p) (now (begin .memory))) _ _ (c .before .before .before .before .before .before .load .ensures) (c .before .before .before .before .before .increment .ensures)
+    (op-of _ 7 (omega (arith, c .before .before .before .before .match .keys4)))
+
+same-length-5 : tie.Need-same-length-5
+same-length-5 c = search needs
+
+returns-5 : tie.Need-returns-5
+returns-5 c =
+    let begin = c .before .before .before .before .before .before .before .before .before .args in
     c .before .before .refer .ensures
     ∙ ops-0-to-5 (at (begin .p) (now (begin .memory))) _ _ (c .before .before .before .before .before .before .load .ensures) (c .before .before .before .before .before .increment .ensures)
-    (ne-eqb _ _ (no .0 .1)) (ne-eqb _ _ (no .1))
+    (let no = c .before .before .before .before .match .rest in below-6 _ (passed-over _ (omega arith) (no .0 .0 .0 .1) (no .0 .0 .1) (no .0 .1) (no .1)))
 
 pub step-spec : {M : Type 1} → statement M
 step-spec =
@@ -69,11 +100,17 @@ step-spec =
     load-requires
     increment-requires
     input-output-requires
-    operated-requires
+    input-output-requires-2
+    first-group-requires
+    other-groups-requires
     refer-requires
     same-length
     returns
     same-length-2
     returns-2
     same-length-3
-    returns-3)
+    returns-3
+    same-length-4
+    returns-4
+    same-length-5
+    returns-5)

@@ -1,4 +1,4 @@
--- The one test and the one choice that every definition of the machine and of the rows goes by.
+-- The one test and the one choice that every definition of the machine, and later of the rows, goes by.
 -- Assumes nothing.
 use Prim.Native.Nat.{ℕ}
 use mathlib.Core.Bool.{Bool, true, false, not}

@@ -39,6 +39,15 @@ impl Coverage {
         }
     }
 
+    /// What another has counted.
+    pub fn add(&mut self, other: &Coverage) {
+        for (name, count) in &other.counts {
+            *self.counts.entry(name.clone()).or_insert(0) += count;
+        }
+        self.words.iter_mut().zip(&other.words).for_each(|(own, count)| *own += count);
+        self.events.iter_mut().zip(&other.events).for_each(|(own, count)| *own += count);
+    }
+
     /// Before each run, so that rewritten words are told from the others.
     pub fn new_run(&mut self) {
         self.stored.iter_mut().for_each(|s| *s = false);

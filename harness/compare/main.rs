@@ -22,9 +22,14 @@ mod texts;
 
 use areas::{Maker, AREAS, EDGES};
 use coverage::Coverage;
+use std::ops::Range;
 use std::process::exit;
+use std::sync::Mutex;
 
 const LISTINGS: u64 = 400;
+
+/// Held by the one run that reports a difference.
+static REPORT: Mutex<()> = Mutex::new(());
 
 struct Options {
     description: String,
@@ -68,7 +73,27 @@ fn fail(area: &str, seed: u64, case: u64, found: &str) -> ! {
     exit(1)
 }
 
-fn compare_area(maker: &Maker, area: usize, range: std::ops::Range<u64>, coverage: &mut Coverage) -> u64 {
+/// The cases of an area, in as many runs beside each other as there are processors; what each has tried is added up.
+fn compare_area(maker: &Maker, area: usize, range: Range<u64>, coverage: &mut Coverage) -> u64 {
+    let workers = std::thread::available_parallelism().map_or(1, |n| n.get() as u64);
+    let share = (range.end - range.start) / workers + 1;
+    let mut compared = 0;
+    std::thread::scope(|scope| {
+        let runs: Vec<_> = (0..workers)
+            .map(|k| (range.start + k * share).min(range.end)..(range.start + (k + 1) * share).min(range.end))
+            .map(|run| scope.spawn(move || compare_cases(maker, area, run)))
+            .collect();
+        for run in runs {
+            let (count, tried) = run.join().unwrap();
+            compared += count;
+            coverage.add(&tried);
+        }
+    });
+    compared
+}
+
+fn compare_cases(maker: &Maker, area: usize, range: Range<u64>) -> (u64, Coverage) {
+    let mut coverage = Coverage::new();
     let mut compared = 0;
     for number in range {
         if let Some((name, past)) = maker.limit(area, number) {
@@ -76,26 +101,28 @@ fn compare_area(maker: &Maker, area: usize, range: std::ops::Range<u64>, coverag
         }
         if area == EDGES {
             if let Some(found) = edges::unmet(&maker.edges[number as usize]) {
+                let _alone = REPORT.lock();
                 fail(AREAS[area].0, maker.seed, number, &found);
             }
         }
         for case in maker.cases(area, number) {
             compared += 1;
-            if let Some(found) = shrink::check(&case, coverage) {
+            if let Some(found) = shrink::check(&case, &mut coverage) {
+                let _alone = REPORT.lock();
                 let small = shrink::shrunk(&case);
                 println!("a smaller case of it:");
                 shrink::print(&small);
-                if let Some(smaller) = shrink::check(&small, coverage) {
+                if let Some(smaller) = shrink::check(&small, &mut coverage) {
                     println!("{}", smaller);
                 }
                 fail(AREAS[area].0, maker.seed, number, &found);
             }
         }
     }
-    compared
+    (compared, coverage)
 }
 
-fn compare_listings(options: &Options, range: std::ops::Range<u64>) -> u64 {
+fn compare_listings(options: &Options, range: Range<u64>) -> u64 {
     let count = range.end - range.start;
     for number in range {
         if let Some(found) = listings::difference(&options.listing, options.seed, number) {

@@ -1,7 +1,7 @@
 -- What an and or an exclusive or of LAC with all its bits, with AC's or with L's leaves.
 -- Assumes nothing.
-use mathlib.Core.Path.{_≡_, sym, ap, _∙_}
-use Prim.Native.Nat.{ℕ, _+_, _-_, _%_, _^_, _<_}
+use mathlib.Core.Path.{_≡_}
+use Prim.Native.Nat.{ℕ, _+_, _%_, _^_, _<_}
 use native.Mathlib.Omega.{arith}
 use lib.Bits.{bitAnd, bitXor, and-mask, and-high, xor-add-and}
 use Rattle.word.specs.Word.{wordBits, complement}

@@ -1,8 +1,8 @@
 -- The rotation of op 7 by the number that bits 8 to 10 make: the code's `match` on it is the definition's three tests.
 -- Assumes nothing.
-use mathlib.Core.Path.{_≡_, refl, sym, ap, _∙_}
+use mathlib.Core.Path.{_≡_, refl, ap, _∙_}
 use mathlib.Core.Bool.{Bool, true, false}
-use Prim.Native.Nat.{ℕ, _+_, _%_, _^_, _<_}
+use Prim.Native.Nat.{ℕ, _^_, _<_}
 use native.Mathlib.Omega.{arith}
 use lib.Dec.{lit<}
 use Rattle.word.specs.Choice.{on, pick, choose}
@@ -10,8 +10,7 @@ use Rattle.word.specs.Word.{wordBits, bits, rotatedLeft, rotatedRight}
 use Rattle.word.proofs.Rotation.{left-then-right}
 use Rattle.machine.specs.State.{lacBits}
 use Rattle.machine.specs.Instruction.{flag}
-use Rattle.operate.specs.Operate.{increased, turnedLeft, turnedRight, rotated}
-use Rattle.operate.proofs.Changes.{increased-lt}
+use Rattle.operate.specs.Operate.{turnedLeft, turnedRight, rotated}
 
 -- left where the second test holds, then right where the first does, by n places
 abbrev turned : Bool → Bool → ℕ → ℕ → ℕ

@@ -1,5 +1,5 @@
 -- `operate::kept`: each arm has what the instruction with these bits alone leaves.
-use mathlib.Core.Path.{_∙_, sym}
+use mathlib.Core.Path.{_∙_}
 use native.Mathlib.Omega.{arith}
 use lib.Bits.{and-zero-r}
 use Rattle.operate.proofs.Changes.{cleared-alike}

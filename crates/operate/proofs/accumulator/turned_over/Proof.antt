@@ -1,5 +1,5 @@
 -- `operate::turned_over`: each arm has what the instruction with these bits alone complements.
-use mathlib.Core.Path.{_∙_, sym}
+use mathlib.Core.Path.{_∙_}
 use native.Mathlib.Omega.{arith}
 use lib.Bits.{xor-zero-r}
 use Rattle.operate.proofs.Changes.{complemented-alike}

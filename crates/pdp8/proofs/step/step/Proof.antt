@@ -1,10 +1,9 @@
 -- `step::step` fetches, increases PC and goes by the op.
-use mathlib.Core.Path.{_≡_, _∙_}
+use mathlib.Core.Path.{_∙_}
 use denote.Ref.{now}
 use native.Mathlib.Omega.{arith}
 use borrow.Author.Needs.{needs}
 use Rattle.machine.specs.State.{at}
-use Rattle.machine.specs.Instruction.{flag}
 use Rattle.pdp8.proofs.Steps.{op-of, below-6, passed-over, counted-good, op-6, op-7, ops-0-to-5}
 use Rattle.pdp8.proofs.step.step.Statement.{statement}
 use Rattle.pdp8.proofs.step.step.Tie as tie

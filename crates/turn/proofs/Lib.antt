@@ -1,5 +1,3 @@
-pub mod Storing
 pub mod OneRow
 pub mod Acts
 mod Planning
-mod Choices

@@ -1,20 +1,27 @@
 // The value of an expression, from its words: postfix, four places a word.
 use code::CODE_PLACES;
 ghost use mathlib.Core.Path.{_≡_};
-ghost use Prim.Native.Nat.{ℕ, _+_, _*_, _%_, _≤_, _<_};
+ghost use Prim.Native.Nat.{ℕ, _+_, _*_, _%_, _^_, _≤_, _<_};
 ghost use lib.ListN.{length, getD};
 ghost use mathlib.Core.Bool.{Bool};
 ghost use Rattle.word.specs.Choice.{bit};
 ghost use Rattle.state.specs.Limits.{memoryWords};
 ghost use Rattle.value.specs.Value.{State};
 ghost use Rattle.word.specs.Word.{swapped};
-ghost use Rattle.value.specs.Words.{Power, cut, loaded, turnedOver, joinedTo, rotatedBy, combined, operated, wordValue, pops as Words·pops, result, between};
+ghost use Rattle.value.specs.Words.{power, Power, cut, loaded, turnedOver, joinedTo, rotatedBy, combined, operated, wordValue, pops as Words·pops, result, between};
 
 // The place value of a bit, by the number of bits on its right.
 pub fn power_of(n: u16) -> u32
     ensures { λ r. ⌜ Power r n ⌝ }
 {
     1u32 << (n % 32)
+}
+
+// x with so many zeros on its right.
+pub fn shifted(x: u16, n: u16) -> u64
+    ensures { λ r. ⌜ r ≡ x * power n ⌝ ∗ ⌜ r < 2 ^ 47 ⌝ }
+{
+    (x as u64) << (n % 32)
 }
 
 // The value of a register.
@@ -47,10 +54,10 @@ fn turned_over(a: u16, x: u16) -> u16
 }
 
 // @, with a right side of b bits.
-fn joined_to(b: u16, x: u16, y: u16) -> u16
+pub fn joined_to(b: u16, x: u16, y: u16) -> u16
     ensures { λ v. ⌜ v ≡ joinedTo b x y ⌝ }
 {
-    ((x as u64 * power_of(b) as u64 + y as u64) % 65536) as u16
+    ((shifted(x, b) + y as u64) % 65536) as u16
 }
 
 // The p bits at the right end and the q bits before them, changing places.
@@ -62,6 +69,14 @@ fn exchanged(p: u16, q: u16, x: u16) -> u16
     ((((x as u32 % seam) as u64) * power_of(q) as u64 + (x as u32 / seam) as u64) % 65536) as u16
 }
 
+// b modulo w; most are below it, and a division is slow.
+fn places(b: u16, w: u16) -> u16
+    requires { ⌜ 0 < w ⌝ }
+    ensures { λ r. ⌜ r ≡ b % w ⌝ }
+{
+    if b < w { b } else { b % w }
+}
+
 // Slr or Srr of w bits, by b places.
 fn rotated_by(kind: u16, w: u16, b: u16, x: u16) -> u16
     requires { ⌜ w < 32 ⌝ }
@@ -70,7 +85,7 @@ fn rotated_by(kind: u16, w: u16, b: u16, x: u16) -> u16
     if w == 0 {
         return x;
     }
-    let n = b % w;
+    let n = places(b, w);
     if kind == 6 {
         exchanged(w - n, n, x)
     } else {

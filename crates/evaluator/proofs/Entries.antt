@@ -3,21 +3,19 @@
 use mathlib.Core.Path.{_≡_, refl, sym, ap, subst, _∙_}
 use mathlib.Core.Bool.{Bool, true, false}
 use mathlib.Core.List.{List, [], _∷_, _++_}
-use Prim.Native.Nat.{ℕ, zero, suc, _*_, _%_, _≤_, _<_}
+use Prim.Native.Nat.{ℕ, suc, _%_, _≤_, _<_}
 use native.Mathlib.Nat.{mod-eq-of-lt}
 use native.Mathlib.Omega.{arith}
 use lib.Dec.{eqb, ltb}
 use lib.ListN.{length, getD, take, drop, List·getD-map, List·getD-eq-default}
-use lib.Seq.{sets}
 use borrow.Author.Tests.{ltb-true, ltb-false}
-use Rattle.word.specs.Choice.{on, pick, choose}
+use Rattle.word.specs.Choice.{pick}
 use Rattle.word.specs.Word.{widest, fits}
 use Rattle.state.specs.Limits.{rowPlaces}
 use Rattle.state.specs.Refusals.{orElse}
 use Rattle.state.specs.Refusals as state
 use Rattle.state.specs.Checks.{firstUnfit, checkMemory, checkRegisters, checkBudget, checkState, checkRowList}
 use Rattle.state.specs.declared.Reason.{Reason}
-use Rattle.state.specs.declared.Reason.the-variants.{Halted, Spent}
 use Rattle.state.specs.declared.Refusal.{Refusal}
 use Rattle.state.specs.declared.Refusal.the-variants.{Register}
 use Rattle.state.specs.declared.Verdict.{Verdict}
@@ -29,10 +27,8 @@ use Rattle.characters.proofs.Tests.{by-test, and-left}
 use Rattle.bit_parts.specs.References.{widthIn}
 use Rattle.bit_parts.proofs.Listed.{entries-length, width-is}
 use Rattle.expression.proofs.Formed.{register-width}
-use Rattle.declaration.specs.Limits.{mostRows}
 use Rattle.declaration.specs.Rows.{Description}
 use Rattle.declaration.specs.declared.faults.Fault.{Fault}
-use Rattle.row.specs.Cells as row
 use Rattle.description.specs.Description.{accepted, turnedDown, runName, readText}
 use Rattle.description.specs.Formed.{Formed}
 use Rattle.value.specs.Value.{State}
@@ -42,7 +38,6 @@ use Rattle.evaluator.specs.declared.Outcome.the-variants.{Ran}
 use Rattle.cycles.specs.declared.run.Course as course
 use Rattle.value.specs.Fitting.{registerPlaces}
 use Rattle.value.specs.Fitting as fitting
-use Rattle.value.specs.Words.{codePlaces}
 use Rattle.cycles.specs.Stored.{runAt, Coursed}
 use Rattle.evaluator.specs.Padded.{widthAt, padded, checkPadded}
 use Rattle.evaluator.proofs.Padding.{padded-at, padded-past}

@@ -1,6 +1,6 @@
 -- The words one by one.
 -- Assumes nothing.
-use mathlib.Core.Path.{_≡_, refl, sym, ap, _∙_}
+use mathlib.Core.Path.{_≡_, refl, ap, _∙_}
 use mathlib.Core.Bool.{Bool, true, false}
 use mathlib.Core.List.{List}
 use Prim.Native.Nat.{ℕ, zero, suc, _+_, _-_, _%_, _≤_, _<_}
@@ -8,9 +8,8 @@ use native.Mathlib.Omega.{arith}
 use lib.Dec.{eqb, ltb}
 use lib.ListN.{getD, set}
 use Rattle.word.specs.Choice.{pick}
-use Rattle.characters.proofs.Tests.{by-test}
 use Rattle.value.specs.Value.{State}
-use Rattle.value.specs.Words.{wordValue, pops, Stack, stackPlaces, baseOf, advance, executed}
+use Rattle.value.specs.Words.{wordValue, pops, Stack, advance, executed}
 
 pub few-pops : (r k : ℕ) → r ≡ pops k → r ≤ 2
 unfolding pops

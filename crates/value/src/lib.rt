@@ -1,12 +1,10 @@
 // The value of an expression, from its words: postfix, four places a word.
 use code::CODE_PLACES;
 ghost use mathlib.Core.Path.{_≡_};
-ghost use Prim.Native.Nat.{ℕ, _+_, _*_, _%_, _^_, _≤_, _<_};
+ghost use Prim.Native.Nat.{_+_, _*_, _%_, _^_, _≤_, _<_};
 ghost use lib.ListN.{length, getD};
-ghost use mathlib.Core.Bool.{Bool};
 ghost use Rattle.word.specs.Choice.{bit};
 ghost use Rattle.state.specs.Limits.{memoryWords};
-ghost use Rattle.value.specs.Value.{State};
 ghost use Rattle.word.specs.Word.{swapped};
 ghost use Rattle.value.specs.Words.{power, Power, cut, loaded, turnedOver, joinedTo, rotatedBy, combined, operated, wordValue, pops as Words·pops, result, between};
 

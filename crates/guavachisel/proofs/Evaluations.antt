@@ -1,4 +1,4 @@
--- From the evaluator's answer to a C caller's arrays: what each of its three cases says of registers, memory, row list and outcome.
+-- From the evaluator's answer to a C caller's arrays: the numbers of each of its three cases, and the report that they stand in.
 -- Assumes nothing.
 use mathlib.Core.Path.{_≡_, refl, sym, ap, _∙_}
 use mathlib.Core.List.{List, [], _∷_}
@@ -29,46 +29,50 @@ line-of Label n = refl
 line-of Limit n = refl
 line-of Run n = refl
 
-module _ (text regs mem : List ℕ) (budget : ℕ) (list regs′ mem′ list′ : List ℕ) (o p : Outcome) (is : o ≡ p)
-    (reported : evaluator.outcomeOf o regs′ mem′ list′ ≡ evaluate text regs mem budget list) where
-  told : evaluator.outcomeOf p regs′ mem′ list′ ≡ evaluate text regs mem budget list
-  told = ap (λ (x : Outcome). evaluator.outcomeOf x regs′ mem′ list′) (sym is) ∙ reported
+-- the numbers of an outcome, whatever registers, memory and row list stand beside it
+module _ (o : Outcome) where
+  pub ran : (why : Reason) (steps n number : ℕ) → o ≡ Ran why steps n → number ≡ reasonNumber why
+      → (regs mem list : List ℕ) → 0 ∷ steps ∷ number ∷ n ∷ [] ≡ outcomeOf (evaluator.outcomeOf o regs mem list)
+  ran why steps n number i j regs mem list = ap (λ (k : ℕ). 0 ∷ steps ∷ k ∷ n ∷ []) j ∙ sym (ap (λ (x : Outcome). outcomeOf (evaluator.outcomeOf x regs mem list)) i)
 
-module _ (text regs mem : List ℕ) (budget : ℕ) (list regs′ mem′ list′ out′ : List ℕ) (o : Outcome)
-    (reported : evaluator.outcomeOf o regs′ mem′ list′ ≡ evaluate text regs mem budget list) where
-  pub ran : (why : Reason) (steps n number : ℕ) → o ≡ Ran why steps n → number ≡ reasonNumber why → out′ ≡ 0 ∷ steps ∷ number ∷ n ∷ []
-      → Evaluated text regs mem budget list regs′ mem′ list′ out′
-  ran why steps n number i j e =
-      let t = told text regs mem budget list regs′ mem′ list′ o (Ran why steps n) i reported in
-      record {
-        registers = ap (λ (r : Report). r .registers) t;
-        memory = ap (λ (r : Report). r .memory) t;
-        rows = ap (λ (r : Report). r .list) t;
-        outcome = e ∙ ap (λ (k : ℕ). 0 ∷ steps ∷ k ∷ n ∷ []) j ∙ ap outcomeOf t;
-      }
+  pub unread : (f : Fault) (n number : ℕ) → o ≡ Unread f n → number ≡ numberOf f
+      → (regs mem list : List ℕ) → number ∷ n ∷ 0 ∷ 0 ∷ [] ≡ outcomeOf (evaluator.outcomeOf o regs mem list)
+  unread f n number i j regs mem list =
+      ap (λ (k : ℕ). k ∷ n ∷ 0 ∷ 0 ∷ []) j
+      ∙ ap (λ (k : ℕ). numberOf f ∷ k ∷ 0 ∷ 0 ∷ []) (sym (line-of f n))
+      ∙ sym (ap (λ (x : Outcome). outcomeOf (evaluator.outcomeOf x regs mem list)) i)
 
-  pub unread : (f : Fault) (n number : ℕ) → o ≡ Unread f n → number ≡ numberOf f → out′ ≡ number ∷ n ∷ 0 ∷ 0 ∷ []
-      → Evaluated text regs mem budget list regs′ mem′ list′ out′
-  unread f n number i j e =
-      let t = told text regs mem budget list regs′ mem′ list′ o (Unread f n) i reported in
-      record {
-        registers = ap (λ (r : Report). r .registers) t;
-        memory = ap (λ (r : Report). r .memory) t;
-        rows = ap (λ (r : Report). r .list) t;
-        outcome = e ∙ ap (λ (k : ℕ). k ∷ n ∷ 0 ∷ 0 ∷ []) j ∙ ap (λ (k : ℕ). numberOf f ∷ k ∷ 0 ∷ 0 ∷ []) (sym (line-of f n)) ∙ ap outcomeOf t;
-      }
+  pub refused : (why : Refusal) (number place : ℕ) → o ≡ Refused why → number ≡ state.numberOf why → place ≡ placeOf why
+      → (regs mem list : List ℕ) → number ∷ place ∷ 0 ∷ 0 ∷ [] ≡ outcomeOf (evaluator.outcomeOf o regs mem list)
+  refused why number place i j k regs mem list =
+      ap (λ (n : ℕ). n ∷ place ∷ 0 ∷ 0 ∷ []) j
+      ∙ ap (λ (n : ℕ). state.numberOf why ∷ n ∷ 0 ∷ 0 ∷ []) (k ∙ sym (second-of why 0))
+      ∙ sym (ap (λ (x : Outcome). outcomeOf (evaluator.outcomeOf x regs mem list)) i)
 
-  pub refused : (why : Refusal) (number place : ℕ) → o ≡ Refused why → number ≡ state.numberOf why → place ≡ placeOf why → out′ ≡ number ∷ place ∷ 0 ∷ 0 ∷ []
-      → Evaluated text regs mem budget list regs′ mem′ list′ out′
-  refused why number place i j k e =
-      let t = told text regs mem budget list regs′ mem′ list′ o (Refused why) i reported in
-      record {
-        registers = ap (λ (r : Report). r .registers) t;
-        memory = ap (λ (r : Report). r .memory) t;
-        rows = ap (λ (r : Report). r .list) t;
-        outcome =
-            e
-            ∙ ap (λ (n : ℕ). n ∷ place ∷ 0 ∷ 0 ∷ []) j
-            ∙ ap (λ (n : ℕ). state.numberOf why ∷ n ∷ 0 ∷ 0 ∷ []) (k ∙ sym (second-of why 0))
-            ∙ ap outcomeOf t;
-      }
+-- an outcome's report holds what stands beside it
+registers-of : (o : Outcome) (regs mem list : List ℕ) → regs ≡ evaluator.outcomeOf o regs mem list .registers
+registers-of (Ran why steps n) regs mem list = refl
+registers-of (Unread f n) regs mem list = refl
+registers-of (Refused why) regs mem list = refl
+
+memory-of : (o : Outcome) (regs mem list : List ℕ) → mem ≡ evaluator.outcomeOf o regs mem list .memory
+memory-of (Ran why steps n) regs mem list = refl
+memory-of (Unread f n) regs mem list = refl
+memory-of (Refused why) regs mem list = refl
+
+list-of : (o : Outcome) (regs mem list : List ℕ) → list ≡ evaluator.outcomeOf o regs mem list .list
+list-of (Ran why steps n) regs mem list = refl
+list-of (Unread f n) regs mem list = refl
+list-of (Refused why) regs mem list = refl
+
+pub evaluated : (text regs mem : List ℕ) (budget : ℕ) (list regs′ mem′ list′ out′ : List ℕ) (o : Outcome)
+    → evaluator.outcomeOf o regs′ mem′ list′ ≡ evaluate text regs mem budget list
+    → ((r m l : List ℕ) → out′ ≡ outcomeOf (evaluator.outcomeOf o r m l))
+    → Evaluated text regs mem budget list regs′ mem′ list′ out′
+evaluated text regs mem budget list regs′ mem′ list′ out′ o reported numbers =
+    record {
+      registers = registers-of o regs′ mem′ list′ ∙ ap (λ (r : Report). r .registers) reported;
+      memory = memory-of o regs′ mem′ list′ ∙ ap (λ (r : Report). r .memory) reported;
+      rows = list-of o regs′ mem′ list′ ∙ ap (λ (r : Report). r .list) reported;
+      outcome = numbers regs′ mem′ list′ ∙ ap outcomeOf reported;
+    }

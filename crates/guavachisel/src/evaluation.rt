@@ -3,7 +3,27 @@ use crate::numbers;
 use crate::reading;
 use evaluator::Outcome;
 use turn::Registers;
-ghost use Rattle.guavachisel.specs.Evaluation.{Evaluated};
+ghost use mathlib.Core.Path.{_≡_};
+ghost use mathlib.Core.List.{List};
+ghost use Prim.Native.Nat.{ℕ};
+ghost use Rattle.evaluator.specs.Evaluate.{outcomeOf as reported};
+ghost use Rattle.guavachisel.specs.Evaluation.{outcomeOf, Evaluated};
+
+// The numbers by which a C caller knows what came of a call.
+fn outcome_numbers(end: Outcome) -> [u64; 4]
+    ensures { λ r. ⌜ ((registers memory list : List ℕ) → r ≡ outcomeOf (reported end registers memory list)) ⌝ }
+{
+    match end {
+        Outcome::Ran(why, steps, listed) => [0, steps, numbers::reason_number(why), listed as u64],
+        Outcome::Unread(f, line) => [reading::fault_number(f), line as u64, 0, 0],
+        Outcome::Refused(why) => [
+            numbers::refusal_number(why),
+            numbers::refusal_place(why),
+            0,
+            0,
+        ],
+    }
+}
 
 // Runs a caller's description on the caller's memory and registers.
 #[no_mangle]
@@ -25,20 +45,5 @@ pub extern "C" fn guavachisel_evaluate(
     let values = after.values;
     *registers = values;
     let end = answer.outcome;
-    match end {
-        Outcome::Ran(why, steps, listed) => {
-            *outcome = [0, steps, numbers::reason_number(why), listed as u64];
-        }
-        Outcome::Unread(f, line) => {
-            *outcome = [reading::fault_number(f), line as u64, 0, 0];
-        }
-        Outcome::Refused(why) => {
-            *outcome = [
-                numbers::refusal_number(why),
-                numbers::refusal_place(why),
-                0,
-                0,
-            ];
-        }
-    }
+    *outcome = outcome_numbers(end);
 }

@@ -1,4 +1,6 @@
 -- `numbers::refusal_number` answers by the case that its definition goes by.
+use mathlib.Core.Path.{sym, ap}
+use Rattle.state.specs.Refusals.{numberOf}
 use borrow.Author.Needs.{needs}
 use Rattle.guavachisel.proofs.numbers.refusal_number.Statement.{statement}
 use Rattle.guavachisel.proofs.numbers.refusal_number.Tie as tie
@@ -19,19 +21,24 @@ enum-told-5 : tie.Need-enum-told-5
 enum-told-5 c = search needs
 
 returns : tie.Need-returns
-returns c = search needs
+returns c =
+    sym (ap numberOf (c .enum-told .given .1))
 
 returns-2 : tie.Need-returns-2
-returns-2 c = search needs
+returns-2 c =
+    sym (ap numberOf (c .enum-told2 .given .1))
 
 returns-3 : tie.Need-returns-3
-returns-3 c = search needs
+returns-3 c =
+    sym (ap numberOf (c .enum-told3 .given .1))
 
 returns-4 : tie.Need-returns-4
-returns-4 c = search needs
+returns-4 c =
+    sym (ap numberOf (c .enum-told4 .given .1))
 
 returns-5 : tie.Need-returns-5
-returns-5 c = search needs
+returns-5 c =
+    sym (ap numberOf (c .enum-told5 .given .1))
 
 pub refusal-number-spec : {M : Type 1} → statement M
 refusal-number-spec =

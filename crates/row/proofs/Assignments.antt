@@ -1,7 +1,7 @@
 -- The laws of a `do` line's parts: destination, value, and the row that they make.
 -- Assumes nothing.
 use mathlib.Core.Path.{_≡_, refl, sym, ap, subst, _∙_}
-use mathlib.Core.Bool.{Bool, true, false}
+use mathlib.Core.Bool.{true, false}
 use mathlib.Core.List.{List, _++_}
 use Prim.Native.Nat.{ℕ, _+_, _-_, _*_}
 use native.Mathlib.Nat.{add-zero}
@@ -16,22 +16,22 @@ use Rattle.code.specs.Code.{codeOf}
 use Rattle.code.specs.Readings.{Reading, read, outside}
 use Rattle.expression.specs.Expression.{Destination, toRegister, toPart, nowhere, expression, destination}
 use Rattle.code.specs.Met.{Held}
-use Rattle.expression.specs.Met.{Address}
+use Rattle.expression.specs.Met.{Address, Aims}
+use Rattle.expression.specs.declared.Place.{Place}
+use Rattle.expression.specs.declared.Place.the-variants.{Register, Bits, Word, Nowhere}
+use Rattle.expression.proofs.Formed.{ordered}
 use Rattle.code.proofs.Stores.{sets-behind}
 use Rattle.declaration.specs.Rows.{Row, does}
 use Rattle.row.specs.declared.cells.Aim.{Aim}
 use Rattle.row.specs.declared.actions.RowRead.{RowRead}
 use Rattle.row.specs.Lines.{isSomewhere, formed, unformed, doRow}
 use Rattle.row.specs.Cells.{addressCode, rowCode, cellsOf, doCells}
-use Rattle.row.specs.Stored.{Aiming, Aimed, HasRow}
-use Rattle.row.proofs.RowLines.{ReadAs}
-
-pub not-so : (b : Bool) {P : Type 0} → b ≡ true → b ≡ false → P
-not-so b e f = absurd (mathlib.Core.Bool.false≢true (sym f ∙ e))
+use Rattle.row.specs.Stored.{Aiming, Aimed, HasRow, InOrder, aimOf}
+use Rattle.row.proofs.RowLines.{ReadAs, not-so}
 
 -- a register or a bit part needs no words
 module _ (x : Destination) (s : List ℕ) (from : Cursor) (now after : List ℕ) where
-  pub aim-register : (r w : ℕ) → x ≡ toRegister r w → after ≡ now
+  aim-register : (r w : ℕ) → x ≡ toRegister r w → after ≡ now
       → Aimed x s (record { kind = 0; register = r; right = 0; size = w; end = from; found = true }) from now after
   aim-register r w e f =
       subst (λ (d : Destination). Aimed d s (record { kind = 0; register = r; right = 0; size = w; end = from; found = true }) from now after) (sym e)
@@ -52,7 +52,7 @@ module _ (x : Destination) (s : List ℕ) (from : Cursor) (now after : List ℕ)
         misses = λ k. not-so true refl k;
       })
 
-  pub aim-part : (r w a b : ℕ) → x ≡ toPart r w a b → after ≡ now
+  aim-part : (r w a b : ℕ) → x ≡ toPart r w a b → after ≡ now
       → Aimed x s (record { kind = 1; register = r; right = w - 1 - b; size = b - a + 1; end = from; found = true }) from now after
   aim-part r w a b e f =
       subst (λ (d : Destination). Aimed d s (record { kind = 1; register = r; right = w - 1 - b; size = b - a + 1; end = from; found = true }) from now after) (sym e)
@@ -73,7 +73,7 @@ module _ (x : Destination) (s : List ℕ) (from : Cursor) (now after : List ℕ)
         misses = λ k. not-so true refl k;
       })
 
-  pub aim-memory : (end : Cursor) → Address x s end (record { place = 0; words = from .words; pieces = from .pieces }) now after
+  aim-memory : (end : Cursor) → Address x s end (record { place = 0; words = from .words; pieces = from .pieces }) now after
       → Aimed x s (record { kind = 2; register = 0; right = 0; size = 0; end = end; found = true }) from now after
   aim-memory end a =
       subst (λ (d : Destination). Aimed d s (record { kind = 2; register = 0; right = 0; size = 0; end = end; found = true }) from now after) (sym (a .is))
@@ -94,10 +94,23 @@ module _ (x : Destination) (s : List ℕ) (from : Cursor) (now after : List ℕ)
         misses = λ k. not-so true refl k;
       })
 
-  pub aim-nowhere : x ≡ nowhere → Aimed x s (record { kind = 0; register = 0; right = 0; size = 0; end = from; found = false }) from now after
+  aim-nowhere : x ≡ nowhere → Aimed x s (record { kind = 0; register = 0; right = 0; size = 0; end = from; found = false }) from now after
   aim-nowhere e =
       subst (λ (d : Destination). Aimed d s (record { kind = 0; register = 0; right = 0; size = 0; end = from; found = false }) from now after) (sym e)
       (record { aims = λ k. not-so false k refl; misses = λ k. refl })
+
+  -- the cells of a place are those of its destination
+  pub aimed : (p : Place) → Aims p x s (record { place = 0; words = from .words; pieces = from .pieces }) now after → Aimed x s (aimOf p from) from now after
+  aimed (Register r w) y = aim-register r w (y .0) (y .1)
+  aimed (Bits r w a b) y = aim-part r w a b (y .0) (y .1)
+  aimed (Word c) y = aim-memory c y
+  aimed Nowhere y = aim-nowhere y
+
+pub in-order : (rs : List Named) (s : List ℕ) (from : Cursor) (now after : List ℕ) (p : Place) → Aims p (destination rs s) s from now after → InOrder p
+in-order rs s from now after (Register r w) y = tt
+in-order rs s from now after (Bits r w a b) y = ordered rs s r w a b (y .0)
+in-order rs s from now after (Word c) y = tt
+in-order rs s from now after Nowhere y = tt
 
 -- the row of a `do` line
 module _ (c e : Expr) (x y : ℕ) (d : Destination) where

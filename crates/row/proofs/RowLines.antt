@@ -10,6 +10,7 @@ use lib.ListN.{length}
 use lib.Seq.{sets}
 use borrow.Author.Tests.{ltb-true, leb-true}
 use Rattle.word.specs.Choice.{pick}
+use Rattle.fields.specs.Fields as text
 use Rattle.fields.specs.Fields.{field, hasFields, lines}
 use Rattle.names.specs.Names.{entries, isName}
 use Rattle.characters.proofs.Tests.{by-test, and-left, and-right}
@@ -31,9 +32,10 @@ use Rattle.declaration.specs.Limits.{mostRows, allPieces}
 use Rattle.declaration.specs.Lines.{Progress, Step, refused, next}
 use Rattle.targets.specs.Targets.{passes}
 use Rattle.declaration.specs.Stored.{progressOf, Within, Plain}
+use Rattle.row.specs.declared.actions.RowRead.{RowRead}
 use Rattle.row.specs.Lines.{addRow, RowReading, formed, unformed, doRow, withRow, doLine, rowsPassed, missingAt, goRow, goLine}
 use Rattle.row.specs.Cells.{rowCells, goCells}
-use Rattle.row.specs.Stored.{Tables, Comes, Takes, hasRoom, oneMore, Put, Forming}
+use Rattle.row.specs.Stored.{Tables, Comes, Takes, hasRoom, oneMore, Put, Forming, Jumps, Assigns, Rows}
 use Rattle.row.proofs.Tables.{tables-more, row-code-pieces}
 
 abbrev isGoes : Status → Bool
@@ -150,7 +152,7 @@ module _ (text : List ℕ) (q : code.Progress) (h : Within q) (row : Row) (cs : 
         few-pieces = leb-true (end .pieces) allPieces (and-right (ltb (q .rows) mostRows) (leb (end .pieces) allPieces) u);
       }
 
-  pub takes-row : Takes text (λ (p : Progress). addRow p row gone) q r code₁ code₂ table₁ table₂
+  takes-row : Takes text (λ (p : Progress). addRow p row gone) q r code₁ code₂ table₁ table₂
   takes-row =
       by-test room
       (λ u.
@@ -233,26 +235,43 @@ module _ (text : List ℕ) (q : code.Progress) (h : Within q) (n : ℕ) (line be
   condition-is : expression (entries text (q .registers)) (field 1 line) ≡ read (k .tree) (k .place)
   condition-is = ap (expression (entries text (q .registers))) (sym first) ∙ k .is
 
-  module _ (label : List ℕ) (second : label ≡ field 2 line) (r : taken.Step) {table₁ table₂ : List ℕ} where
-    pub go-added : isName label ≡ true → (t : Target) → t ≡ passes label (lines below) → (passed gone : ℕ) → passed ≡ rowsPassed t → gone ≡ missingAt t n (q .missing)
-        → (cs : List ℕ) → cs ≡ goCells (q .words) (end .words) passed → Put q cs end gone r table₁ table₂
-        → Takes text (λ (p : Progress). goLine p n (lines below) line) q r code₁ code₂ table₁ table₂
-    go-added named t there passed gone i j cs e put =
-        takes-as text (λ (p : Progress). goLine p n (lines below) line) (λ (p : Progress). addRow p (goes (k .tree) passed) gone) q r
-        (λ rs.
-        go-taken (progressOf text q rs) n line below (k .tree) (k .place) fields condition-is (ap isName (sym second) ∙ named)
-        ∙ ap (λ (z : Target). addRow (progressOf text q rs) (goes (k .tree) (rowsPassed z)) (missingAt z n (q .missing)))
-        (sym (there ∙ ap (λ (l : List ℕ). passes l (lines below)) second))
-        ∙ ap (λ (z : ℕ). addRow (progressOf text q rs) (goes (k .tree) z) (missingAt t n (q .missing))) (sym i)
-        ∙ ap (addRow (progressOf text q rs) (goes (k .tree) passed)) (sym j))
-        (takes-row text q h (goes (k .tree) passed) cs end gone r (go-forms q (k .tree) (k .place) end w passed cs code₁ code₂ (k .held) e) put)
+  abbrev target′ : Target
+  target′ = passes (field 2 line) (lines below)
 
-    pub go-refused : isName label ≡ false → r ≡ record { progress = q; status = Refused Label }
-        → Takes text (λ (p : Progress). goLine p n (lines below) line) q r code₁ code₂ table₁ table₂
-    go-refused named e =
-        takes-refused text (λ (p : Progress). goLine p n (lines below) line) q Label r e
-        (λ rs. go-unnamed (progressOf text q rs) n line below (k .tree) (k .place) fields condition-is (ap isName (sym second) ∙ named))
-        h
+  pub go-jumps : (r : taken.Step) {table₁ table₂ : List ℕ} → Jumps q n (field 2 line) (lines below) end r table₁ table₂
+      → Takes text (λ (p : Progress). goLine p n (lines below) line) q r code₁ code₂ table₁ table₂
+  go-jumps r j =
+      by-test (isName (field 2 line))
+      (λ u.
+      takes-as text (λ (p : Progress). goLine p n (lines below) line) (λ (p : Progress). addRow p (goes (k .tree) (rowsPassed target′)) (missingAt target′ n (q .missing))) q r
+      (λ rs. go-taken (progressOf text q rs) n line below (k .tree) (k .place) fields condition-is u)
+      (takes-row text q h (goes (k .tree) (rowsPassed target′)) (goCells (q .words) (end .words) (rowsPassed target′)) end (missingAt target′ n (q .missing)) r
+      (go-forms q (k .tree) (k .place) end w (rowsPassed target′) (goCells (q .words) (end .words) (rowsPassed target′)) code₁ code₂ (k .held) refl)
+      (j .named u)))
+      (λ u.
+      takes-refused text (λ (p : Progress). goLine p n (lines below) line) q Label r (j .nameless u)
+      (λ rs. go-unnamed (progressOf text q rs) n line below (k .tree) (k .place) fields condition-is u)
+      h)
+
+pub not-so : (b : Bool) {P : Type 0} → b ≡ true → b ≡ false → P
+not-so b e f = absurd (mathlib.Core.Bool.false≢true (sym f ∙ e))
+
+-- a `go` by the label that the code holds
+module _ (q : code.Progress) (n : ℕ) (label held : List ℕ) (below : List text.Line) (second : held ≡ label) (end : Cursor) (r : taken.Step) {table₁ table₂ : List ℕ} where
+  pub jumps : isName held ≡ true → (t : Target) → t ≡ passes held below → (passed gone : ℕ) → passed ≡ rowsPassed t → gone ≡ missingAt t n (q .missing)
+      → (cs : List ℕ) → cs ≡ goCells (q .words) (end .words) passed → Put q cs end gone r table₁ table₂ → Jumps q n label below end r table₁ table₂
+  jumps named t there passed gone i j cs e put =
+      let there′ = there ∙ ap (λ (l : List ℕ). passes l below) second in
+      record {
+        named = λ u.
+            subst (λ (m : ℕ). Put q (goCells (q .words) (end .words) (rowsPassed (passes label below))) end m r table₁ table₂) (j ∙ ap (λ (z : Target). missingAt z n (q .missing)) there′)
+            (subst (λ (c : List ℕ). Put q c end gone r table₁ table₂) (e ∙ ap (goCells (q .words) (end .words)) (i ∙ ap rowsPassed there′)) put);
+        nameless = λ u. not-so (isName label) (ap isName (sym second) ∙ named) u;
+      }
+
+  pub jumps-nowhere : isName held ≡ false → r ≡ record { progress = q; status = Refused Label } → Jumps q n label below end r table₁ table₂
+  jumps-nowhere named e =
+      record { named = λ u. not-so (isName label) u (ap isName (sym second) ∙ named); nameless = λ u. e }
 
 -- `do` lines
 module _ (p : Progress) (s : List ℕ) where
@@ -275,8 +294,18 @@ module _ (p : Progress) (s : List ℕ) where
   unfolding withRow
   with-unformed = refl
 
-  pub do-taken : (row : Row) → hasFields 4 s ≡ true → reading ≡ formed row → doLine p s ≡ addRow p row (p .missing)
+  do-taken : (row : Row) → hasFields 4 s ≡ true → reading ≡ formed row → doLine p s ≡ addRow p row (p .missing)
   do-taken row t e = do-fields t ∙ ap (withRow p) e ∙ with-formed row
 
-  pub do-unread : hasFields 4 s ≡ true → reading ≡ unformed → doLine p s ≡ refused Expression
+  do-unread : hasFields 4 s ≡ true → reading ≡ unformed → doLine p s ≡ refused Expression
   do-unread t e = do-fields t ∙ ap (withRow p) e ∙ with-unformed
+
+pub do-assigned : (text : List ℕ) (q : code.Progress) → Within q → (line : List ℕ) → hasFields 4 line ≡ true → (x : RowRead) (r : taken.Step) {code₁ code₂ table₁ table₂ : List ℕ}
+    → Rows (entries text (q .registers)) line (before q) x code₁ code₂ → Assigns q x r table₁ table₂ → Takes text (λ (p : Progress). doLine p line) q r code₁ code₂ table₁ table₂
+do-assigned text q h line fields x r rows a =
+    by-test (x .found)
+    (λ u.
+    takes-as text (λ (p : Progress). doLine p line) (λ (p : Progress). addRow p (rows .forms u .row) (q .missing)) q r
+    (λ rs. do-taken (progressOf text q rs) line (rows .forms u .row) fields (rows .forms u .is))
+    (takes-row text q h (rows .forms u .row) (x .cells) (x .end) (q .missing) r (rows .forms u .forms) (a .added u)))
+    (λ u. takes-refused text (λ (p : Progress). doLine p line) q Expression r (a .lost u) (λ rs. do-unread (progressOf text q rs) line fields (rows .lacks u)) h)

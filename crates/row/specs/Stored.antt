@@ -3,19 +3,22 @@
 use mathlib.Core.Path.{_≡_}
 use mathlib.Core.Bool.{Bool, true, false, _&&_}
 use mathlib.Core.List.{List}
-use Prim.Native.Nat.{ℕ, _+_, _*_, _≤_}
+use Prim.Native.Nat.{ℕ, _+_, _-_, _*_, _≤_, _<_}
 use lib.Dec.{leb, ltb}
 use lib.ListN.{length}
 use lib.Seq.{sets}
 use Rattle.word.specs.Choice.{pick}
+use Rattle.fields.specs.Fields as text
 use Rattle.fields.specs.Fields.{field}
-use Rattle.names.specs.Names.{Named}
+use Rattle.names.specs.Names.{Named, isName}
 use Rattle.code.specs.Tree.{Expr}
 use Rattle.code.specs.Readings.{read}
 use Rattle.expression.specs.Expression.{Destination, expression, destination}
+use Rattle.expression.specs.declared.Place.{Place}
+use Rattle.expression.specs.declared.Place.the-variants.{Register, Bits, Word, Nowhere}
 use Rattle.code.specs.Met.{Held}
 use Rattle.code.specs.declared.Cursor.{Cursor}
-use Rattle.declaration.specs.declared.faults.Fault.the-variants.{Limit}
+use Rattle.declaration.specs.declared.faults.Fault.the-variants.{Limit, Label, Expression}
 use Rattle.declaration.specs.declared.lines.Progress as progress
 use Rattle.declaration.specs.declared.lines.Status.the-variants.{Goes, Refused}
 use Rattle.declaration.specs.declared.lines.Step as step
@@ -23,10 +26,11 @@ use Rattle.declaration.specs.Rows.{Row, rowPieces, addressPieces}
 use Rattle.declaration.specs.Limits.{mostRows, allPieces}
 use Rattle.declaration.specs.Lines.{Progress, Step}
 use Rattle.declaration.specs.Stored.{progressOf, stepOf, Within}
+use Rattle.targets.specs.Targets.{passes}
 use Rattle.row.specs.declared.cells.Aim.{Aim}
 use Rattle.row.specs.declared.actions.RowRead.{RowRead}
-use Rattle.row.specs.Lines.{isSomewhere, RowReading, formed, unformed, doRow}
-use Rattle.row.specs.Cells.{rowCells, addressCode, rowCode, code, kindOf, registerOf, rightOf, sizeOf, cellsOf, cells}
+use Rattle.row.specs.Lines.{isSomewhere, RowReading, formed, unformed, doRow, rowsPassed, missingAt}
+use Rattle.row.specs.Cells.{rowCells, goCells, addressCode, rowCode, code, kindOf, registerOf, rightOf, sizeOf, cellsOf, cells}
 
 -- the lent tables hold the words of so many rows, and are else as they came
 pub record Tables (rs : List Row) (rows words : ℕ) (code₀ code₁ table₀ table₁ : List ℕ) : Type 0 where
@@ -67,6 +71,31 @@ oneMore q end gone =
 pub record Put (q : progress.Progress) (cs : List ℕ) (end : Cursor) (gone : ℕ) (r : step.Step) (before after : List ℕ) : Type 0 where
   pub is : r ≡ pick (hasRoom q end) (record { progress = oneMore q end gone; status = Goes }) (record { progress = q; status = Refused Limit })
   pub table-is : after ≡ pick (hasRoom q end) (sets before (rowCells * q .rows) cs) before
+
+-- a `go` whose condition was read: its row, if its label is a name
+pub record Jumps (q : progress.Progress) (n : ℕ) (label : List ℕ) (below : List text.Line) (end : Cursor) (r : step.Step) (before after : List ℕ) : Type 0 where
+  pub named : isName label ≡ true
+      → Put q (goCells (q .words) (end .words) (rowsPassed (passes label below))) end (missingAt (passes label below) n (q .missing)) r before after
+  pub nameless : isName label ≡ false → r ≡ record { progress = q; status = Refused Label }
+
+-- the row of a `do`, if one was read
+pub record Assigns (q : progress.Progress) (x : RowRead) (r : step.Step) (before after : List ℕ) : Type 0 where
+  pub added : x .found ≡ true → Put q (x .cells) (x .end) (q .missing) r before after
+  pub lost : x .found ≡ false → r ≡ record { progress = q; status = Refused Expression }
+
+-- the bits of a part stand in their order, within the register
+abbrev pub InOrder : Place → Type 0
+InOrder (Register r w) = Unit {0}
+InOrder (Bits r w a b) = (a ≤ b) × (b < w)
+InOrder (Word c) = Unit {0}
+InOrder Nowhere = Unit {0}
+
+-- the cells of a place
+abbrev pub aimOf : Place → Cursor → Aim
+aimOf (Register r w) from = record { kind = 0; register = r; right = 0; size = w; end = from; found = true }
+aimOf (Bits r w a b) from = record { kind = 1; register = r; right = w - 1 - b; size = b - a + 1; end = from; found = true }
+aimOf (Word c) from = record { kind = 2; register = 0; right = 0; size = 0; end = c; found = true }
+aimOf Nowhere from = record { kind = 0; register = 0; right = 0; size = 0; end = from; found = false }
 
 -- a destination that was read: its cells, and its address's words and pieces behind those before it
 pub record Aiming (x : Destination) (s : List ℕ) (a : Aim) (from : Cursor) (before after : List ℕ) : Type 0 where

@@ -17,20 +17,14 @@ ghost use Rattle.fields.specs.Fields.{tab, after};
 ghost use Rattle.names.specs.Names.{entries, places};
 ghost use Rattle.code.specs.Met.{capacity};
 ghost use Rattle.expression.specs.Expression.{destination};
-ghost use Rattle.row.specs.Stored.{Aimed, Acts, Rows};
+ghost use Rattle.row.specs.Stored.{InOrder, aimOf, Aimed, Acts, Rows};
 
-// The destination in a field, behind what a cursor has counted.
-fn read_aim(
-    text: &[u8],
-    d: Dictionary,
-    s: &[u8],
-    code: &mut [u16; CODE_PLACES],
-    from: Cursor,
-) -> Aim
-    requires { ⌜ d .count ≤ places ⌝ ∗ ⌜ from .words + length (now s) ≤ capacity ⌝ ∗ ⌜ from .pieces + length (now s) ≤ capacity ⌝ }
-    ensures { λ r. ⌜ Aimed (destination (entries (now (text .entry)) d) (now (s .entry))) (now (s .entry)) r from (now (code .entry)) (now (code .exit)) ⌝ }
+// The cells of a place that was read behind what a cursor has counted.
+fn aim_of(place: Place, from: Cursor) -> Aim
+    requires { ⌜ InOrder place ⌝ }
+    ensures { λ r. ⌜ r ≡ aimOf place from ⌝ }
 {
-    match read_destination(text, d, s, code, from.words, from.pieces) {
+    match place {
         Place::Register { register, width } => Aim {
             kind: 0,
             register: register,
@@ -69,6 +63,21 @@ fn read_aim(
             found: false,
         },
     }
+}
+
+// The destination in a field, behind what a cursor has counted.
+fn read_aim(
+    text: &[u8],
+    d: Dictionary,
+    s: &[u8],
+    code: &mut [u16; CODE_PLACES],
+    from: Cursor,
+) -> Aim
+    requires { ⌜ d .count ≤ places ⌝ ∗ ⌜ from .words + length (now s) ≤ capacity ⌝ ∗ ⌜ from .pieces + length (now s) ≤ capacity ⌝ }
+    ensures { λ r. ⌜ Aimed (destination (entries (now (text .entry)) d) (now (s .entry))) (now (s .entry)) r from (now (code .entry)) (now (code .exit)) ⌝ }
+{
+    let place = read_destination(text, d, s, code, from.words, from.pieces);
+    aim_of(place, from)
 }
 
 // A row that was read: its cells, and how far its words and pieces reach.

@@ -1,5 +1,6 @@
 // The lines of rows: `go` and `do`.
 use crate::actions;
+use crate::actions::RowRead;
 use crate::cells;
 use crate::cells::ROW_CELLS;
 use crate::limits;
@@ -17,11 +18,12 @@ use targets::Target;
 ghost use mathlib.Core.Path.{_≡_};
 ghost use Prim.Native.Nat.{_≤_};
 ghost use lib.ListN.{length};
-ghost use Rattle.fields.specs.Fields.{lines as Fields·lines};
+ghost use Rattle.fields.specs.Fields.{field, lines as Fields·lines};
+ghost use Rattle.code.specs.Met.{capacity};
 ghost use Rattle.declaration.specs.Limits.{mostBytes, longestLine, mostRows};
 ghost use Rattle.declaration.specs.Stored.{Within};
 ghost use Rattle.row.specs.Lines.{goLine, doLine, rowsPassed, missingAt};
-ghost use Rattle.row.specs.Stored.{Takes, Put};
+ghost use Rattle.row.specs.Stored.{Takes, oneMore, Put, Jumps, Assigns};
 
 // The rows passed over, 0 where the label is missing.
 fn rows_passed(target: Target) -> u16
@@ -43,6 +45,20 @@ fn missing_at(target: Target, n: usize, before: usize) -> usize
     }
 }
 
+// The progress with a row more.
+fn one_more(q: Progress, end: Cursor, missing: usize) -> Progress
+    requires { ⌜ q .rows ≤ mostRows ⌝ }
+    ensures { λ r. ⌜ r ≡ oneMore q end missing ⌝ }
+{
+    let mut next = q;
+    next.rows = q.rows + 1;
+    next.words = end.words;
+    next.pieces = end.pieces;
+    next.begun = true;
+    next.missing = missing;
+    next
+}
+
 // The progress with a row more, if there is room for it and its pieces.
 fn add_row(
     q: Progress,
@@ -56,18 +72,34 @@ fn add_row(
 {
     if (q.rows < limits::ROWS) & (end.pieces <= limits::PIECES) {
         cells::put_row(table, q.rows, cells);
-        let mut next = q;
-        next.rows = q.rows + 1;
-        next.words = end.words;
-        next.pieces = end.pieces;
-        next.begun = true;
-        next.missing = missing;
         Step {
-            progress: next,
+            progress: one_more(q, end, missing),
             status: Status::Goes,
         }
     } else {
         lines::refused(q, Fault::Limit)
+    }
+}
+
+// The `go` whose condition's words end at a cursor, if its label is a name.
+fn add_go(
+    q: Progress,
+    n: usize,
+    line: &[u8],
+    below: &[u8],
+    end: Cursor,
+    table: &mut [u16; TABLE_CELLS],
+) -> Step
+    requires { ⌜ q .rows ≤ mostRows ⌝ ∗ ⌜ q .words ≤ capacity ⌝ ∗ ⌜ end .words ≤ capacity ⌝ ∗ ⌜ length (now below) ≤ mostBytes ⌝ }
+    ensures { λ r. ⌜ Jumps q n (field 2 (now (line .entry))) (Fields·lines (now (below .entry))) end r (now (table .entry)) (now (table .exit)) ⌝ }
+{
+    let label = fields::field_of(line, 2);
+    if names::is_name(label) {
+        let target = targets::passes(label, below);
+        let cells = cells::go_cells(q.words, end.words, rows_passed(target));
+        add_row(q, table, cells, end, missing_at(target, n, q.missing))
+    } else {
+        lines::refused(q, Fault::Label)
     }
 }
 
@@ -96,17 +128,21 @@ pub fn go_line(
         q.words,
         q.pieces,
     ) {
-        Part::Found(end, _) => {
-            let label = fields::field_of(line, 2);
-            if names::is_name(label) {
-                let target = targets::passes(label, below);
-                let cells = cells::go_cells(q.words, end.words, rows_passed(target));
-                add_row(q, table, cells, end, missing_at(target, n, q.missing))
-            } else {
-                lines::refused(q, Fault::Label)
-            }
-        }
+        Part::Found(end, _) => add_go(q, n, line, below, end, table),
         Part::Fault => lines::refused(q, Fault::Expression),
+    }
+}
+
+// The row that was read, if one was.
+fn add_read(q: Progress, table: &mut [u16; TABLE_CELLS], row: RowRead) -> Step
+    requires { ⌜ q .rows ≤ mostRows ⌝ }
+    ensures { λ r. ⌜ Assigns q row r (now (table .entry)) (now (table .exit)) ⌝ }
+{
+    if row.found {
+        let cells = row.cells;
+        add_row(q, table, cells, row.end, q.missing)
+    } else {
+        lines::refused(q, Fault::Expression)
     }
 }
 
@@ -131,10 +167,5 @@ pub fn do_line(
         pieces: q.pieces,
     };
     let row = actions::read_row(text, q.registers, line, code, from);
-    if row.found {
-        let cells = row.cells;
-        add_row(q, table, cells, row.end, q.missing)
-    } else {
-        lines::refused(q, Fault::Expression)
-    }
+    add_read(q, table, row)
 }

@@ -9,21 +9,19 @@ put-row-requires : tie.Need-put-row-requires
 put-row-requires c κs =
     ltb-true _ _ (and-left _ _ (c .before .if1 .taken))
 
-add-next : tie.Need-add-next
-add-next c = search needs
+one-more-requires : tie.Need-one-more-requires
+one-more-requires c κs = search needs
 
 refused-requires : tie.Need-refused-requires
 refused-requires c κs = search needs
 
 returns : tie.Need-returns
 returns c =
-    record { is = rw (c .before .before .before .if1 .taken); table-is = rw (c .before .before .before .if1 .taken) (c .before .put-row .ensures) }
+    record { is = rw (c .before .before .before .if1 .taken, c .one-more .ensures); table-is = rw (c .before .before .before .if1 .taken) (c .before .put-row .ensures) }
 
 returns-2 : tie.Need-returns-2
 returns-2 c =
     record { is = rw (c .before .if1 .left) (c .refused .ensures); table-is = rw (c .before .if1 .left) }
 
 pub add-row-spec : {M : Type 1} → statement M
-add-row-spec =
-    tie.close
-    (tie.spec put-row-requires add-next refused-requires returns returns-2)
+add-row-spec = tie.close (tie.spec put-row-requires one-more-requires refused-requires returns returns-2)

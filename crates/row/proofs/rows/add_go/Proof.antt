@@ -1,0 +1,50 @@
+-- `rows::add_go`: the row of a `go`, if its label is a name.
+use mathlib.Core.Path.{sym, _∙_}
+use Rattle.fields.specs.Fields.{field, lines}
+use Rattle.row.proofs.RowLines.{jumps, jumps-nowhere}
+use borrow.Author.Needs.{needs}
+use Rattle.row.proofs.rows.add_go.Statement.{statement}
+use Rattle.row.proofs.rows.add_go.Tie as tie
+
+field-of-requires : tie.Need-field-of-requires
+field-of-requires c κs = search needs
+
+is-name-requires : tie.Need-is-name-requires
+is-name-requires c κs = search needs
+
+passes-requires : tie.Need-passes-requires
+passes-requires c κs =
+    c .before .before .before .before .before .pre .1 .1 .1
+
+rows-passed-requires : tie.Need-rows-passed-requires
+rows-passed-requires c κs = search needs
+
+go-cells-requires : tie.Need-go-cells-requires
+go-cells-requires c κs =
+    (c .before .before .before .before .before .before .before .pre .1 .0, c .before .before .before .before .before .before .before .pre .1 .1 .0)
+
+missing-at-requires : tie.Need-missing-at-requires
+missing-at-requires c κs = search needs
+
+add-row-requires : tie.Need-add-row-requires
+add-row-requires c κs =
+    c .before .before .before .before .before .before .before .before .before .before .pre .0
+
+refused-requires : tie.Need-refused-requires
+refused-requires c κs = search needs
+
+returns : tie.Need-returns
+returns c =
+    let a = c .before .before .before .before .before .before .before .before .before .before .before .args in
+    jumps (a .q) (a .n) (field 2 (a .line .now)) (c .before .before .before .before .before .before .before .before .field-of .result .now) (lines (a .below .now)) (c .before .before .before .before .before .before .before .before .field-of .ensures) (a .end) (c .add-row .result)
+    (sym (c .before .before .before .before .before .before .before .is-name .ensures) ∙ c .before .before .before .before .before .before .if1 .taken) (c .before .before .before .before .before .passes .result) (c .before .before .before .before .before .passes .ensures) (c .before .before .before .before .rows-passed .result) (c .before .missing-at .result) (c .before .before .before .before .rows-passed .ensures) (c .before .missing-at .ensures)
+    (c .before .before .before .go-cells .result) (c .before .before .before .go-cells .ensures) (c .add-row .ensures)
+
+returns-2 : tie.Need-returns-2
+returns-2 c =
+    let a = c .before .before .before .before .before .before .args in
+    jumps-nowhere (a .q) (a .n) (field 2 (a .line .now)) (c .before .before .before .field-of .result .now) (lines (a .below .now)) (c .before .before .before .field-of .ensures) (a .end) (c .refused .result)
+    (sym (c .before .before .is-name .ensures) ∙ c .before .if1 .left) (c .refused .ensures)
+
+pub add-go-spec : {M : Type 1} → statement M
+add-go-spec = tie.close (tie.spec field-of-requires is-name-requires passes-requires rows-passed-requires go-cells-requires missing-at-requires add-row-requires refused-requires returns returns-2)

@@ -1,7 +1,7 @@
 -- The three ways through a step: the instruction i that was fetched, with PC increased to n, by its op, which its bits 0 to 3 tell.
 -- Assumes nothing.
 use mathlib.Core.Path.{_≡_, sym, ap, _∙_, subst}
-use Prim.Native.Nat.{ℕ, suc, _/_, _<_}
+use Prim.Native.Nat.{ℕ, suc, _/_, _%_, _<_}
 use native.Mathlib.Omega.{arith}
 use borrow.Author.Tests.{ne-eqb}
 use lib.Dec.{eqb}
@@ -10,7 +10,7 @@ use Rattle.word.specs.Word.{wordBits, bits, next}
 use Rattle.word.proofs.Choice.{case-true, case-false}
 use Rattle.word.proofs.Next.{next-lt}
 use Rattle.machine.specs.State.{State, Good, word, withPc}
-use Rattle.machine.specs.Instruction.{op}
+use Rattle.machine.specs.Instruction.{op, flag}
 use Rattle.machine.specs.Interrupt.{interruptTest, inputOutput}
 use Rattle.machine.proofs.Keeps.{pc-good}
 use Rattle.operate.specs.Operate.{operate}
@@ -20,6 +20,12 @@ use Rattle.pdp8.specs.Step.{execute, step}
 -- bits 0 to 3 are op and one bit more
 pub op-of : (i n : ℕ) → bits wordBits 0 3 i / 2 ≡ n → op i ≡ n
 op-of i n key = omega (arith, key)
+
+pub bit-3-of : (i n : ℕ) → bits wordBits 0 3 i ≡ n → flag 3 i ≡ n % 2
+bit-3-of i n key = omega (arith, key)
+
+pub below-16 : (i : ℕ) → bits wordBits 0 3 i < 16
+below-16 i = omega arith
 
 pub below-6 : (i : ℕ) → bits wordBits 0 3 i < 12 → op i < 6
 below-6 i key = omega (arith, key)

@@ -1,7 +1,10 @@
 -- `characters::is_same`: what is left of the two strings is the same where the whole strings are.
-use mathlib.Core.Path.{_≡_, refl, sym, _∙_}
-use Prim.Native.Nat.{_-_, _≤_}
+use mathlib.Core.Path.{_≡_, refl, sym, ap, subst, _∙_}
+use mathlib.Core.Bool.{Bool, false, _&&_}
+use mathlib.Core.List.{List}
+use Prim.Native.Nat.{ℕ, _+_, _-_, _≤_, _<_}
 use native.Mathlib.Omega.{arith}
+use lib.Dec.{eqb}
 use lib.ListN.{length, getD, drop}
 use borrow.Author.Tests.{eq-eqb, ne-eqb}
 use Rattle.characters.specs.Characters.{same}
@@ -9,6 +12,20 @@ use Rattle.characters.proofs.Strings.{unequal, compared, equal-ends}
 use borrow.Author.Needs.{needs}
 use Rattle.characters.proofs.is_same.Statement.{statement}
 use Rattle.characters.proofs.is_same.Tie as tie
+
+onward : (i n : ℕ) → i < n → i + 1 ≤ n
+onward i n h = omega arith
+
+-- the bytes at a place of both differ, or agree
+module _ (a b : List ℕ) (i : ℕ) (e : length a ≡ length b) (h : i < length a) (l : same a b ≡ same (drop i a) (drop i b)) where
+  both : same a b ≡ eqb (getD a i 0) (getD b i 0) && same (drop (i + 1) a) (drop (i + 1) b)
+  both = l ∙ compared a b i h (subst (λ (n : ℕ). i < n) e h)
+
+  differ : (getD a i 0 ≡ getD b i 0 → ⊥) → false ≡ same a b
+  differ t = sym (both ∙ ap (λ (x : Bool). x && same (drop (i + 1) a) (drop (i + 1) b)) (ne-eqb (getD a i 0) (getD b i 0) t))
+
+  agree : getD a i 0 ≡ getD b i 0 → same a b ≡ same (drop (i + 1) a) (drop (i + 1) b)
+  agree t = both ∙ ap (λ (x : Bool). x && same (drop (i + 1) a) (drop (i + 1) b)) (eq-eqb (getD a i 0) (getD b i 0) t)
 
 abbrev Inv-loop : tie.InvT-loop
 Inv-loop a b i₀ i =
@@ -35,9 +52,8 @@ shared-slice-read-if2-2 c = search needs
 returns-2 : tie.Need-returns-2 Inv-loop μ-loop
 returns-2 c =
     let a = c .before .before .before .before .before .before .args in
-    sym (c .before .before .before .before .loop .inv .2
-    ∙ compared (a .a .now) (a .b .now) (c .before .before .before .before .loop .i) (omega arith) (omega (arith, c .before .before .before .before .loop .inv))
-    ∙ rw (ne-eqb (getD (a .a .now) (c .before .before .before .before .loop .i) 0) (getD (a .b .now) (c .before .before .before .before .loop .i) 0) (c .if2 .taken)))
+    let l = c .before .before .before .before .loop in
+    differ (a .a .now) (a .b .now) (l .i) (l .inv .0) (c .before .before .before .loop-test .taken) (l .inv .2) (c .if2 .taken)
 
 add-i : tie.Need-add-i Inv-loop μ-loop
 add-i c = search needs
@@ -47,19 +63,15 @@ loop-less c = search needs
 
 loop-again : tie.Need-loop-again Inv-loop μ-loop
 loop-again c =
-    let a = c .before .before .before .before .before .before .args in (
-      c .before .before .before .before .loop .inv .0,
-      omega arith,
-      c .before .before .before .before .loop .inv .2
-          ∙ compared (a .a .now) (a .b .now) (c .before .before .before .before .loop .i) (omega arith) (omega (arith, c .before .before .before .before .loop .inv))
-          ∙ rw (eq-eqb (getD (a .a .now) (c .before .before .before .before .loop .i) 0) (getD (a .b .now) (c .before .before .before .before .loop .i) 0) (c .if2 .left)),
-    )
+    let a = c .before .before .before .before .before .before .args in
+    let l = c .before .before .before .before .loop in
+    (l .inv .0, onward (l .i) (length (a .a .now)) (c .before .before .before .loop-test .taken), agree (a .a .now) (a .b .now) (l .i) (l .inv .0) (c .before .before .before .loop-test .taken) (l .inv .2) (c .if2 .left))
 
 returns-3 : tie.Need-returns-3 Inv-loop μ-loop
 returns-3 c =
     let a = c .before .before .before .args in
     let h = c .before .loop .inv in
-    sym (h .2 ∙ equal-ends (a .a .now) (a .b .now) (c .before .loop .i) (c .loop-test .left) (omega arith))
+    sym (h .2 ∙ equal-ends (a .a .now) (a .b .now) (c .before .loop .i) (c .loop-test .left) (subst (λ (n : ℕ). n ≤ c .before .loop .i) (h .0) (c .loop-test .left)))
 
 pub is-same-spec : {M : Type 1} → statement M
 is-same-spec =

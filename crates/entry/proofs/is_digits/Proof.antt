@@ -7,7 +7,7 @@ run-end-requires : tie.Need-run-end-requires
 run-end-requires c κs = search needs
 
 returns : tie.Need-returns
-returns c = cc
+returns c = rw (c .run-end .ensures)
 
 pub is-digits-spec : {M : Type 1} → statement M
 is-digits-spec = tie.close (tie.spec run-end-requires returns)

@@ -1,10 +1,10 @@
 -- `step::step` fetches, increases PC and goes by the op.
-use mathlib.Core.Path.{_∙_}
+use mathlib.Core.Path.{ap, _∙_}
 use denote.Ref.{now}
-use native.Mathlib.Omega.{arith}
+use Prim.Native.Nat.{ℕ, _/_}
 use borrow.Author.Needs.{needs}
 use Rattle.machine.specs.State.{at}
-use Rattle.pdp8.proofs.Steps.{op-of, below-6, passed-over, counted-good, op-6, op-7, ops-0-to-5}
+use Rattle.pdp8.proofs.Steps.{op-of, bit-3-of, below-16, below-6, passed-over, counted-good, op-6, op-7, ops-0-to-5}
 use Rattle.pdp8.proofs.step.step.Statement.{statement}
 use Rattle.pdp8.proofs.step.step.Tie as tie
 
@@ -24,14 +24,14 @@ first-group-requires : tie.Need-first-group-requires
 first-group-requires c κs =
     let begin = c .before .before .before .before .before .before in (
       counted-good (at (begin .args .p) (now (begin .args .memory))) _ _ (c .before .before .before .load .ensures) (c .before .before .increment .ensures) (begin .pre),
-      omega (arith, c .before .match .keys3),
+      bit-3-of _ 14 (c .before .match .keys3),
     )
 
 other-groups-requires : tie.Need-other-groups-requires
 other-groups-requires c κs =
     let begin = c .before .before .before .before .before .before in (
       counted-good (at (begin .args .p) (now (begin .args .memory))) _ _ (c .before .before .before .load .ensures) (c .before .before .increment .ensures) (begin .pre),
-      omega (arith, c .before .match .keys4),
+      bit-3-of _ 15 (c .before .match .keys4),
     )
 
 refer-requires : tie.Need-refer-requires
@@ -39,7 +39,7 @@ refer-requires c κs =
     let begin = c .before .before .before .before .before .before in
     let no = c .before .match .rest in (
       counted-good (at (begin .args .p) (now (begin .args .memory))) _ _ (c .before .before .before .load .ensures) (c .before .before .increment .ensures) (begin .pre),
-      (rw (c .before .before .before .load .ensures) (begin .pre .memory .words (begin .args .p .pc)), (begin .pre .pc, below-6 _ (passed-over _ (omega arith) (no .0 .0 .0 .1) (no .0 .0 .1) (no .0 .1) (no .1)))),
+      (rw (c .before .before .before .load .ensures) (begin .pre .memory .words (begin .args .p .pc)), (begin .pre .pc, below-6 _ (passed-over _ (below-16 _) (no .0 .0 .0 .1) (no .0 .0 .1) (no .0 .1) (no .1)))),
     )
 
 same-length : tie.Need-same-length
@@ -50,7 +50,7 @@ returns c =
     let begin = c .before .before .before .before .before .before .before .before .before .args in
     c .before .before .input-output .ensures
     ∙ op-6 (at (begin .p) (now (begin .memory))) _ _ (c .before .before .before .before .before .before .load .ensures) (c .before .before .before .before .before .increment .ensures)
-    (op-of _ 6 (omega (arith, c .before .before .before .before .match .keys1)))
+    (op-of _ 6 (ap (λ (x : ℕ). x / 2) (c .before .before .before .before .match .keys1)))
 
 same-length-2 : tie.Need-same-length-2
 same-length-2 c = search needs
@@ -60,7 +60,7 @@ returns-2 c =
     let begin = c .before .before .before .before .before .before .before .before .before .args in
     c .before .before .input-output2 .ensures
     ∙ op-6 (at (begin .p) (now (begin .memory))) _ _ (c .before .before .before .before .before .before .load .ensures) (c .before .before .before .before .before .increment .ensures)
-    (op-of _ 6 (omega (arith, c .before .before .before .before .match .keys2)))
+    (op-of _ 6 (ap (λ (x : ℕ). x / 2) (c .before .before .before .before .match .keys2)))
 
 same-length-3 : tie.Need-same-length-3
 same-length-3 c = search needs
@@ -70,7 +70,7 @@ returns-3 c =
     let begin = c .before .before .before .before .before .before .before .before .before .args in
     c .before .before .first-group .ensures
     ∙ op-7 (at (begin .p) (now (begin .memory))) _ _ (c .before .before .before .before .before .before .load .ensures) (c .before .before .before .before .before .increment .ensures)
-    (op-of _ 7 (omega (arith, c .before .before .before .before .match .keys3)))
+    (op-of _ 7 (ap (λ (x : ℕ). x / 2) (c .before .before .before .before .match .keys3)))
 
 same-length-4 : tie.Need-same-length-4
 same-length-4 c = search needs
@@ -80,7 +80,7 @@ returns-4 c =
     let begin = c .before .before .before .before .before .before .before .before .before .args in
     c .before .before .other-groups .ensures
     ∙ op-7 (at (begin .p) (now (begin .memory))) _ _ (c .before .before .before .before .before .before .load .ensures) (c .before .before .before .before .before .increment .ensures)
-    (op-of _ 7 (omega (arith, c .before .before .before .before .match .keys4)))
+    (op-of _ 7 (ap (λ (x : ℕ). x / 2) (c .before .before .before .before .match .keys4)))
 
 same-length-5 : tie.Need-same-length-5
 same-length-5 c = search needs
@@ -90,7 +90,7 @@ returns-5 c =
     let begin = c .before .before .before .before .before .before .before .before .before .args in
     c .before .before .refer .ensures
     ∙ ops-0-to-5 (at (begin .p) (now (begin .memory))) _ _ (c .before .before .before .before .before .before .load .ensures) (c .before .before .before .before .before .increment .ensures)
-    (let no = c .before .before .before .before .match .rest in below-6 _ (passed-over _ (omega arith) (no .0 .0 .0 .1) (no .0 .0 .1) (no .0 .1) (no .1)))
+    (let no = c .before .before .before .before .match .rest in below-6 _ (passed-over _ (below-16 _) (no .0 .0 .0 .1) (no .0 .0 .1) (no .0 .1) (no .1)))
 
 pub step-spec : {M : Type 1} → statement M
 step-spec =

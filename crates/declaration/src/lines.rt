@@ -110,13 +110,11 @@ fn add_register(text: &[u8], q: Progress, start: usize, name: &[u8], width: &[u8
                 name.len() as u16,
                 width_of(n),
             );
-            taken(next)
-        } else {
-            refused(q, Fault::Limit)
+            return taken(next);
         }
-    } else {
-        refused(q, Fault::Register)
+        return refused(q, Fault::Limit);
     }
+    refused(q, Fault::Register)
 }
 
 // Whether a field is a label that an `at` line may bring.
@@ -137,13 +135,11 @@ fn add_label(text: &[u8], q: Progress, start: usize, label: &[u8]) -> Step
             let mut next = q;
             next.labels = names::with_name(labels, start as u16, label.len() as u16, 0);
             next.begun = true;
-            taken(next)
-        } else {
-            refused(q, Fault::Limit)
+            return taken(next);
         }
-    } else {
-        refused(q, Fault::Label)
+        return refused(q, Fault::Limit);
     }
+    refused(q, Fault::Label)
 }
 
 // The `reg` line that stands at a place in the text.
@@ -153,16 +149,15 @@ pub fn reg_line(text: &[u8], q: Progress, place: usize, line: &[u8]) -> Step
     ensures { λ r. ⌜ Plain (now (text .entry)) (λ p. regLine p (now (line .entry))) q r ⌝ }
 {
     if fields::has_fields(line, 3) & !q.begun {
-        add_register(
+        return add_register(
             text,
             q,
             place + 4,
             fields::field_of(line, 1),
             fields::field_of(line, 2),
-        )
-    } else {
-        refused(q, Fault::Line)
+        );
     }
+    refused(q, Fault::Line)
 }
 
 // The `at` line that stands at a place in the text.
@@ -172,8 +167,7 @@ pub fn at_line(text: &[u8], q: Progress, place: usize, line: &[u8]) -> Step
     ensures { λ r. ⌜ Plain (now (text .entry)) (λ p. atLine p (now (line .entry))) q r ⌝ }
 {
     if fields::has_fields(line, 2) {
-        add_label(text, q, place + 3, fields::field_of(line, 1))
-    } else {
-        refused(q, Fault::Line)
+        return add_label(text, q, place + 3, fields::field_of(line, 1));
     }
+    refused(q, Fault::Line)
 }

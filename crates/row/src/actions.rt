@@ -121,16 +121,17 @@ fn read_action(
             aim.end.words,
             aim.end.pieces,
         ) {
-            Part::Found(end, _) => RowRead {
-                cells: cells::do_cells(start, condition.words, aim, end.words),
-                end: end,
-                found: true,
-            },
-            Part::Fault => no_row(condition),
+            Part::Found(end, _) => {
+                return RowRead {
+                    cells: cells::do_cells(start, condition.words, aim, end.words),
+                    end: end,
+                    found: true,
+                };
+            }
+            Part::Fault => return no_row(condition),
         }
-    } else {
-        no_row(condition)
     }
+    no_row(condition)
 }
 
 // The row of a `do` line.
@@ -152,7 +153,7 @@ pub(crate) fn read_row(
         from.words,
         from.pieces,
     ) {
-        Part::Found(condition, _) => read_action(text, d, line, code, from.words, condition),
-        Part::Fault => no_row(from),
+        Part::Found(condition, _) => return read_action(text, d, line, code, from.words, condition),
+        Part::Fault => return no_row(from),
     }
 }

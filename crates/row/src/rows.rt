@@ -21,6 +21,7 @@ ghost use lib.ListN.{length};
 ghost use Rattle.fields.specs.Fields.{field, lines as Fields·lines};
 ghost use Rattle.code.specs.Met.{capacity};
 ghost use Rattle.declaration.specs.Limits.{mostBytes, longestLine, mostRows};
+ghost use Rattle.declaration.specs.declared.lines.Status.the-variants.{Goes};
 ghost use Rattle.declaration.specs.Stored.{Within};
 ghost use Rattle.row.specs.Lines.{goLine, doLine, rowsPassed, missingAt};
 ghost use Rattle.row.specs.Stored.{Takes, oneMore, Put, Jumps, Assigns};
@@ -45,10 +46,10 @@ fn missing_at(target: Target, n: usize, before: usize) -> usize
     }
 }
 
-// The progress with a row more.
-fn one_more(q: Progress, end: Cursor, missing: usize) -> Progress
+// The row was taken: the progress has a row more.
+fn one_more(q: Progress, end: Cursor, missing: usize) -> Step
     requires { ⌜ q .rows ≤ mostRows ⌝ }
-    ensures { λ r. ⌜ r ≡ oneMore q end missing ⌝ }
+    ensures { λ r. ⌜ r ≡ record { progress = oneMore q end missing; status = Goes } ⌝ }
 {
     let mut next = q;
     next.rows = q.rows + 1;
@@ -56,7 +57,10 @@ fn one_more(q: Progress, end: Cursor, missing: usize) -> Progress
     next.pieces = end.pieces;
     next.begun = true;
     next.missing = missing;
-    next
+    Step {
+        progress: next,
+        status: Status::Goes,
+    }
 }
 
 // The progress with a row more, if there is room for it and its pieces.
@@ -72,13 +76,9 @@ fn add_row(
 {
     if (q.rows < limits::ROWS) & (end.pieces <= limits::PIECES) {
         cells::put_row(table, q.rows, cells);
-        Step {
-            progress: one_more(q, end, missing),
-            status: Status::Goes,
-        }
-    } else {
-        lines::refused(q, Fault::Limit)
+        return one_more(q, end, missing);
     }
+    lines::refused(q, Fault::Limit)
 }
 
 // The `go` whose condition's words end at a cursor, if its label is a name.
@@ -97,10 +97,9 @@ fn add_go(
     if names::is_name(label) {
         let target = targets::passes(label, below);
         let cells = cells::go_cells(q.words, end.words, rows_passed(target));
-        add_row(q, table, cells, end, missing_at(target, n, q.missing))
-    } else {
-        lines::refused(q, Fault::Label)
+        return add_row(q, table, cells, end, missing_at(target, n, q.missing));
     }
+    lines::refused(q, Fault::Label)
 }
 
 // The `go` line with number n, above what stands below it.
@@ -128,8 +127,8 @@ pub fn go_line(
         q.words,
         q.pieces,
     ) {
-        Part::Found(end, _) => add_go(q, n, line, below, end, table),
-        Part::Fault => lines::refused(q, Fault::Expression),
+        Part::Found(end, _) => return add_go(q, n, line, below, end, table),
+        Part::Fault => return lines::refused(q, Fault::Expression),
     }
 }
 
@@ -140,10 +139,9 @@ fn add_read(q: Progress, table: &mut [u16; TABLE_CELLS], row: RowRead) -> Step
 {
     if row.found {
         let cells = row.cells;
-        add_row(q, table, cells, row.end, q.missing)
-    } else {
-        lines::refused(q, Fault::Expression)
+        return add_row(q, table, cells, row.end, q.missing);
     }
+    lines::refused(q, Fault::Expression)
 }
 
 // A `do` line.

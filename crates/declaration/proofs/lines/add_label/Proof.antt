@@ -44,14 +44,4 @@ returns-3 c =
 pub add-label-spec : {M : Type 1} → statement M
 add-label-spec =
     tie.close
-    (tie.spec
-    is-new-label-requires
-    cast-with-name
-    cast-with-name-2
-    with-name-requires
-    taken-requires
-    refused-requires
-    refused-requires-2
-    returns
-    returns-2
-    returns-3)
+    (tie.spec is-new-label-requires cast-with-name cast-with-name-2 with-name-requires taken-requires returns refused-requires returns-2 refused-requires-2 returns-3)

@@ -60,17 +60,4 @@ returns-3 c =
 pub add-register-spec : {M : Type 1} → statement M
 add-register-spec =
     tie.close
-    (tie.spec
-    decimal-at-requires
-    is-new-name-requires
-    is-width-requires
-    cast-with-name
-    cast-with-name-2
-    width-of-requires
-    with-name-requires
-    taken-requires
-    refused-requires
-    refused-requires-2
-    returns
-    returns-2
-    returns-3)
+    (tie.spec decimal-at-requires is-new-name-requires is-width-requires cast-with-name cast-with-name-2 width-of-requires with-name-requires taken-requires returns refused-requires returns-2 refused-requires-2 returns-3)

@@ -42,11 +42,4 @@ returns-2 c =
 pub at-line-spec : {M : Type 1} → statement M
 at-line-spec =
     tie.close
-    (tie.spec
-    has-fields-requires
-    add-add-label
-    field-of-requires
-    add-label-requires
-    refused-requires
-    returns
-    returns-2)
+    (tie.spec has-fields-requires add-add-label field-of-requires add-label-requires returns refused-requires returns-2)

@@ -49,12 +49,4 @@ returns-2 c =
 pub reg-line-spec : {M : Type 1} → statement M
 reg-line-spec =
     tie.close
-    (tie.spec
-    has-fields-requires
-    add-add-register
-    field-of-requires
-    field-of-requires-2
-    add-register-requires
-    refused-requires
-    returns
-    returns-2)
+    (tie.spec has-fields-requires add-add-register field-of-requires field-of-requires-2 add-register-requires returns refused-requires returns-2)

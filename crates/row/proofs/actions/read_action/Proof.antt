@@ -94,16 +94,4 @@ returns-3 c =
 pub read-action-spec : {M : Type 1} → statement M
 read-action-spec =
     tie.close
-    (tie.spec
-    field-of-requires
-    read-aim-requires
-    field-of-requires-2
-    read-expression-requires
-    enum-known-end
-    do-cells-requires
-    enum-told
-    no-row-requires
-    no-row-requires-2
-    returns
-    returns-2
-    returns-3)
+    (tie.spec field-of-requires read-aim-requires field-of-requires-2 read-expression-requires enum-known-end do-cells-requires returns enum-told no-row-requires returns-2 no-row-requires-2 returns-3)

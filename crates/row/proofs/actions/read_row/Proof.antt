@@ -67,12 +67,4 @@ returns-2 c =
 pub read-row-spec : {M : Type 1} → statement M
 read-row-spec =
     tie.close
-    (tie.spec
-    field-of-requires
-    read-expression-requires
-    enum-known-condition
-    read-action-requires
-    enum-told
-    no-row-requires
-    returns
-    returns-2)
+    (tie.spec field-of-requires read-expression-requires enum-known-condition read-action-requires returns enum-told no-row-requires returns-2)

@@ -47,4 +47,4 @@ returns-2 c =
     (sym (c .before .before .is-name .ensures) ∙ c .before .if1 .left) (c .refused .ensures)
 
 pub add-go-spec : {M : Type 1} → statement M
-add-go-spec = tie.close (tie.spec field-of-requires is-name-requires passes-requires rows-passed-requires go-cells-requires missing-at-requires add-row-requires refused-requires returns returns-2)
+add-go-spec = tie.close (tie.spec field-of-requires is-name-requires passes-requires rows-passed-requires go-cells-requires missing-at-requires add-row-requires returns refused-requires returns-2)

@@ -20,4 +20,4 @@ returns-2 c =
     record { added = λ u. not-so _ u (c .before .if1 .left); lost = λ u. c .refused .ensures }
 
 pub add-read-spec : {M : Type 1} → statement M
-add-read-spec = tie.close (tie.spec add-row-requires refused-requires returns returns-2)
+add-read-spec = tie.close (tie.spec add-row-requires returns refused-requires returns-2)

@@ -17,11 +17,11 @@ refused-requires c κs = search needs
 
 returns : tie.Need-returns
 returns c =
-    record { is = rw (c .before .before .before .if1 .taken, c .one-more .ensures); table-is = rw (c .before .before .before .if1 .taken) (c .before .put-row .ensures) }
+    record { is = rw (c .before .before .before .if1 .taken) (c .one-more .ensures); table-is = rw (c .before .before .before .if1 .taken) (c .before .put-row .ensures) }
 
 returns-2 : tie.Need-returns-2
 returns-2 c =
     record { is = rw (c .before .if1 .left) (c .refused .ensures); table-is = rw (c .before .if1 .left) }
 
 pub add-row-spec : {M : Type 1} → statement M
-add-row-spec = tie.close (tie.spec put-row-requires one-more-requires refused-requires returns returns-2)
+add-row-spec = tie.close (tie.spec put-row-requires one-more-requires returns refused-requires returns-2)

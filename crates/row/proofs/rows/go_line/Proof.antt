@@ -71,4 +71,4 @@ returns-3 c =
     (c .before .before .before .before .before .before .before .before .before .before .before .pre .0)
 
 pub go-line-spec : {M : Type 1} → statement M
-go-line-spec = tie.close (tie.spec has-fields-requires refused-requires returns field-of-requires read-expression-requires enum-known-end add-go-requires enum-told refused-requires-2 returns-2 returns-3)
+go-line-spec = tie.close (tie.spec has-fields-requires refused-requires returns field-of-requires read-expression-requires enum-known-end add-go-requires returns-2 enum-told refused-requires-2 returns-3)

@@ -1,11 +1,11 @@
 -- `constants::decimal_at`: the tests of its definition, in its order.
 use mathlib.Core.Path.{_≡_, sym}
 use mathlib.Core.Bool.{Bool, true, not, _&&_, _||_}
-use Prim.Native.Nat.{ℕ, _+_, _-_, _≤_}
+use Prim.Native.Nat.{ℕ, _+_, _-_, _≤_, _<_}
 use native.Mathlib.Omega.{arith}
 use borrow.Author.Tests.{leb-true, le-leb, lt-leb}
 use lib.Dec.{eqb, leb}
-use lib.ListN.{getD}
+use lib.ListN.{length, getD}
 use Rattle.characters.specs.Characters.{runEnd}
 use Rattle.constants.specs.Constants.{numberAt, decimalDigits, largest, isPlain}
 use Rattle.characters.specs.declared.Class.the-variants.{Word}
@@ -21,6 +21,12 @@ upper d at digits end first t =
     leb-true end (at + decimalDigits)
     (and-right (eqb digits end) (leb end (at + decimalDigits))
     (and-left (eqb digits end && leb end (at + decimalDigits)) (not (eqb first 48) || eqb end (at + 1)) (and-right d (isPlain first at digits end) t)))
+
+inside : (at n : ℕ) → at < n → at ≤ n
+inside at n h = omega arith
+
+within : (at end n : ℕ) → at ≤ end → end ≤ n → end ≤ at + decimalDigits → (at + (end - at) ≤ n) × ((end - at ≤ 16) × (10 ≤ 10))
+within at end n p q r = (omega arith, (omega arith, omega arith))
 
 returns : tie.Need-returns
 returns c =
@@ -51,10 +57,11 @@ sub-digits-value c =
 digits-value-requires : tie.Need-digits-value-requires
 digits-value-requires c κs =
     let a = c .before .before .before .before .before .before .before .args in
-    let low = after-start Word (a .s .now) (a .at) (c .before .before .before .run-end .result) (c .before .before .before .run-end .ensures) in
-    let in-line = before-end Word (a .s .now) (a .at) (c .before .before .before .run-end .result) (c .before .before .before .run-end .ensures) (omega arith) in
-    let short = upper (c .before .is-digit .result) (c .before .before .before .before .before .before .before .args .at) (c .before .before .run-end2 .result) (c .before .before .before .run-end .result) (getD (c .before .before .before .before .before .before .before .args .s .now) (c .before .before .before .before .before .before .before .args .at) 0) (c .if2 .taken) in
-    omega arith
+    let end = c .before .before .before .run-end in
+    within (a .at) (end .result) (length (a .s .now))
+    (after-start Word (a .s .now) (a .at) (end .result) (end .ensures))
+    (before-end Word (a .s .now) (a .at) (end .result) (end .ensures) (inside (a .at) (length (a .s .now)) (c .before .before .before .before .before .if1 .left)))
+    (upper (c .before .is-digit .result) (a .at) (c .before .before .run-end2 .result) (end .result) (getD (a .s .now) (a .at) 0) (c .if2 .taken))
 
 cast-t21 : tie.Need-cast-t21
 cast-t21 c = search needs

@@ -1,41 +1,42 @@
--- A list with another value at a place, as a choice at each place of its own.
+-- A list with another value at a place, by a choice at one place after the other.
 -- Assumes nothing.
-use mathlib.Core.Path.{_≡_, refl, sym, ap, subst, _∙_}
+use mathlib.Core.Path.{_≡_, refl, sym, ap, _∙_}
 use mathlib.Core.Bool.{Bool, true, false}
-use mathlib.Core.List.{List, [], _∷_}
-use Prim.Native.Nat.{ℕ, zero, suc, _+_, _<_}
-use native.Mathlib.Nat.{add-zero, zero-add}
+use mathlib.Core.List.{List}
+use Prim.Native.Nat.{ℕ, _+_, _<_}
 use native.Mathlib.Omega.{arith}
-use lib.Dec.{eqb}
-use lib.ListN.{length, getD, set, length-set}
-use lib.Seq.{ext-getD, getD-set-same, getD-set-other}
-use borrow.Author.Tests.{eqb-true, eqb-false}
+use lib.Dec.{eqb, ltb}
+use lib.ListN.{getD, set}
+use lib.Seq.{set-getD}
+use borrow.Author.Tests.{eqb-true, eqb-false, ltb-true, ltb-false, lt-ltb, le-ltb}
 use Rattle.word.specs.Choice.{pick}
 
--- two lists, four places at a time
-pub four : {a b c d k l m n : ℕ} {xs ys : List ℕ} → a ≡ k → b ≡ l → c ≡ m → d ≡ n → xs ≡ ys → (a ∷ b ∷ c ∷ d ∷ xs) ≡ (k ∷ l ∷ m ∷ n ∷ ys)
-four e f g h r = rw (e, f, g, h, r)
+-- the list after the choices at the places below k: z at place i
+abbrev pub chosen : List ℕ → ℕ → ℕ → ℕ → List ℕ
+chosen l i z k = pick (ltb i k) (set l i z) l
 
--- z or the list's own value, at n places from k on
-abbrev pub choices : List ℕ → ℕ → ℕ → ℕ → ℕ → List ℕ
-choices l i z k zero = []
-choices l i z k (suc n) = pick (eqb i k) z (getD l k 0) ∷ choices l i z (k + 1) n
+pub none-chosen : (l : List ℕ) (i z : ℕ) → l ≡ chosen l i z 0
+none-chosen l i z = sym (ap (λ (t : Bool). pick t (set l i z) l) (le-ltb i 0 (omega arith)))
 
-module _ (l : List ℕ) (i z : ℕ) where
-  choices-length : (k n : ℕ) → length (choices l i z k n) ≡ n
-  choices-length k zero = refl
-  choices-length k (suc n) = ap suc (choices-length (k + 1) n)
+-- a place that is not i changes nothing
+passed : (i k : ℕ) → (i ≡ k → ⊥) → ltb i k ≡ ltb i (k + 1)
+passed i k h = from (ltb i k) refl
+  where
+    from : (t : Bool) → ltb i k ≡ t → ltb i k ≡ ltb i (k + 1)
+    from true e = e ∙ sym (lt-ltb i (k + 1) (omega (arith, ltb-true i k e)))
+    from false e = e ∙ sym (le-ltb i (k + 1) (omega (arith, ltb-false i k e, h)))
 
-  choices-at : (k n j : ℕ) → j < n → getD (choices l i z k n) j 0 ≡ pick (eqb i (k + j)) z (getD l (k + j) 0)
-  choices-at k (suc n) zero h = ap (λ (m : ℕ). pick (eqb i m) z (getD l m 0)) (sym (add-zero k))
-  choices-at k (suc n) (suc j) h = choices-at (k + 1) n j (omega arith) ∙ ap (λ (m : ℕ). pick (eqb i m) z (getD l m 0)) (omega arith)
+pub one-choice : (l : List ℕ) (i z k : ℕ) → set (chosen l i z k) k (pick (eqb i k) z (getD (chosen l i z k) k 0)) ≡ chosen l i z (k + 1)
+one-choice l i z k = by (eqb i k) refl
+  where
+    by : (t : Bool) → eqb i k ≡ t → set (chosen l i z k) k (pick t z (getD (chosen l i z k) k 0)) ≡ chosen l i z (k + 1)
+    by true e =
+        let here = eqb-true i k e in
+        ap (λ (t : Bool). set (pick t (set l i z) l) k z) (le-ltb i k (omega (arith, here)))
+        ∙ ap (λ (n : ℕ). set l n z) (sym here)
+        ∙ sym (ap (λ (t : Bool). pick t (set l i z) l) (lt-ltb i (k + 1) (omega (arith, here))))
+    by false e =
+        set-getD (chosen l i z k) k 0 ∙ ap (λ (t : Bool). pick t (set l i z) l) (passed i k (eqb-false i k e))
 
-  one-choice : (j : ℕ) → j < length l → (t : Bool) → eqb i j ≡ t → pick t z (getD l j 0) ≡ getD (set l i z) j 0
-  one-choice j h true e = sym (ap (λ (m : ℕ). getD (set l m z) j 0) (eqb-true i j e) ∙ getD-set-same l j z 0 h)
-  one-choice j h false e = sym (getD-set-other l i j z 0 (λ q. eqb-false i j e (sym q)))
-
-  pub set-choices : (n : ℕ) → length l ≡ n → choices l i z 0 n ≡ set l i z
-  set-choices n e =
-      let long = choices-length 0 n in
-      ext-getD 0 (choices l i z 0 n) (set l i z) (long ∙ sym e ∙ sym (length-set l i z))
-      (λ j h. choices-at 0 n j (subst (λ (m : ℕ). j < m) long h) ∙ ap (λ (m : ℕ). pick (eqb i m) z (getD l m 0)) (zero-add j) ∙ one-choice j (subst (λ (m : ℕ). j < m) (long ∙ sym e) h) (eqb i j) refl)
+pub all-chosen : (l : List ℕ) (i z k : ℕ) → i < k → chosen l i z k ≡ set l i z
+all-chosen l i z k h = ap (λ (t : Bool). pick t (set l i z) l) (lt-ltb i k h)

@@ -1,4 +1,3 @@
-pub mod Remainders
 pub mod Widths
 pub mod Standing
 pub mod Compiled

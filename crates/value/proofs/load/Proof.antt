@@ -2,7 +2,7 @@
 use Prim.Native.Nat.{_/_}
 use borrow.Author.Tests.{eq-eqb, ne-eqb}
 use Rattle.value.specs.Words.{loaded}
-use Rattle.value.proofs.Remainders.{part-le, quotient-le, narrow-is}
+use Rattle.shifts.proofs.Remainders.{part-le, quotient-le, narrow-is}
 use borrow.Author.Needs.{needs}
 use Rattle.value.proofs.load.Statement.{statement}
 use Rattle.value.proofs.load.Tie as tie

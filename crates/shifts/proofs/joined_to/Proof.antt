@@ -1,8 +1,8 @@
--- `value::joined_to` is its definition.
-use Rattle.value.specs.Words.{joinedTo}
+-- `shifts::joined_to` is its definition.
+use Rattle.shifts.specs.Shifts.{joinedTo}
 use borrow.Author.Needs.{needs}
-use Rattle.value.proofs.joined_to.Statement.{statement}
-use Rattle.value.proofs.joined_to.Tie as tie
+use Rattle.shifts.proofs.joined_to.Statement.{statement}
+use Rattle.shifts.proofs.joined_to.Tie as tie
 
 shifted-requires : tie.Need-shifted-requires
 shifted-requires c κs = search needs

@@ -1,4 +1,4 @@
--- `value::power_of`: 1 shifted by fewer than 32 places loses nothing.
+-- `shifts::power_of`: 1 shifted by fewer than 32 places loses nothing.
 use mathlib.Core.Path.{_∙_}
 use Prim.Native.Nat.{_^_, _%_}
 use native.Mathlib.Nat.{one-mul}
@@ -6,8 +6,8 @@ use native.Mathlib.Omega.{arith}
 use lib.Dec.{lit<}
 use lib.Pow.{shl-exact, pow-pos, pow-mono}
 use borrow.Author.Needs.{needs}
-use Rattle.value.proofs.power_of.Statement.{statement}
-use Rattle.value.proofs.power_of.Tie as tie
+use Rattle.shifts.proofs.power_of.Statement.{statement}
+use Rattle.shifts.proofs.power_of.Tie as tie
 
 cast-result : tie.Need-cast-result
 cast-result c = search needs

@@ -1,9 +1,9 @@
--- `value::turned_over` is its definition.
-use Rattle.value.specs.Words.{turnedOver}
-use Rattle.value.proofs.Remainders.{remainder}
+-- `operation::turned_over` is its definition.
+use Rattle.operation.specs.Operation.{turnedOver}
+use Rattle.shifts.proofs.Remainders.{remainder}
 use borrow.Author.Needs.{needs}
-use Rattle.value.proofs.turned_over.Statement.{statement}
-use Rattle.value.proofs.turned_over.Tie as tie
+use Rattle.operation.proofs.turned_over.Statement.{statement}
+use Rattle.operation.proofs.turned_over.Tie as tie
 
 power-of-requires : tie.Need-power-of-requires
 power-of-requires c κs = search needs

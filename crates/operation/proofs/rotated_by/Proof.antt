@@ -1,14 +1,15 @@
--- `value::rotated_by`: by the way that it turns.
+-- `operation::rotated_by`: by the way that it turns.
 use mathlib.Core.Path.{ap, _∙_}
 use Prim.Native.Nat.{ℕ, _-_}
 use native.Mathlib.Omega.{arith}
 use borrow.Author.Tests.{eq-eqb, ne-eqb}
 use Rattle.word.specs.Word.{swapped}
-use Rattle.value.specs.Words.{cut, rotatedBy}
-use Rattle.value.proofs.Remainders.{rest-le}
+use Rattle.shifts.specs.Shifts.{cut}
+use Rattle.operation.specs.Operation.{rotatedBy}
+use Rattle.shifts.proofs.Remainders.{rest-le}
 use borrow.Author.Needs.{needs}
-use Rattle.value.proofs.rotated_by.Statement.{statement}
-use Rattle.value.proofs.rotated_by.Tie as tie
+use Rattle.operation.proofs.rotated_by.Statement.{statement}
+use Rattle.operation.proofs.rotated_by.Tie as tie
 
 returns : tie.Need-returns
 unfolding rotatedBy

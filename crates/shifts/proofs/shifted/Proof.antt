@@ -1,11 +1,11 @@
--- `value::shifted`: 16 bits shifted by fewer than 32 places lose nothing among 64.
+-- `shifts::shifted`: 16 bits shifted by fewer than 32 places lose nothing among 64.
 use Prim.Native.Nat.{_+_, _*_, _^_, _%_, _<_}
 use native.Mathlib.Nat.{lt-of-lt-of-le}
 use native.Mathlib.Omega.{arith}
 use lib.Pow.{shl-exact, shl-lt, pow-mono}
 use borrow.Author.Needs.{needs}
-use Rattle.value.proofs.shifted.Statement.{statement}
-use Rattle.value.proofs.shifted.Tie as tie
+use Rattle.shifts.proofs.shifted.Statement.{statement}
+use Rattle.shifts.proofs.shifted.Tie as tie
 
 cast-result : tie.Need-cast-result
 cast-result c = search needs

@@ -1,11 +1,11 @@
--- `value::exchanged`: the shifts are below 32.
+-- `operation::exchanged`: the shifts are below 32.
 use native.Mathlib.Omega.{arith}
 use native.Mathlib.Nat.{mod-eq-of-lt}
 use Prim.Native.Nat.{_%_}
-use Rattle.value.proofs.Remainders.{part-le, quotient-le, product-le}
+use Rattle.shifts.proofs.Remainders.{part-le, quotient-le, product-le}
 use borrow.Author.Needs.{needs}
-use Rattle.value.proofs.exchanged.Statement.{statement}
-use Rattle.value.proofs.exchanged.Tie as tie
+use Rattle.operation.proofs.exchanged.Statement.{statement}
+use Rattle.operation.proofs.exchanged.Tie as tie
 
 power-of-requires : tie.Need-power-of-requires
 power-of-requires c κs = search needs

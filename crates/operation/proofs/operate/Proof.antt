@@ -1,9 +1,9 @@
--- `value::operate`: kind by kind.
+-- `operation::operate`: kind by kind.
 use borrow.Author.Tests.{eq-eqb, ne-eqb, lt-ltb, le-ltb}
-use Rattle.value.specs.Words.{operated}
+use Rattle.operation.specs.Operation.{operated}
 use borrow.Author.Needs.{needs}
-use Rattle.value.proofs.operate.Statement.{statement}
-use Rattle.value.proofs.operate.Tie as tie
+use Rattle.operation.proofs.operate.Statement.{statement}
+use Rattle.operation.proofs.operate.Tie as tie
 
 turned-over-requires : tie.Need-turned-over-requires
 turned-over-requires c κs = search needs

@@ -1,9 +1,9 @@
--- `value::places`: what is below the width stays.
+-- `operation::places`: what is below the width stays.
 use mathlib.Core.Path.{sym}
 use native.Mathlib.Nat.{mod-eq-of-lt}
 use borrow.Author.Needs.{needs}
-use Rattle.value.proofs.places.Statement.{statement}
-use Rattle.value.proofs.places.Tie as tie
+use Rattle.operation.proofs.places.Statement.{statement}
+use Rattle.operation.proofs.places.Tie as tie
 
 rem-result : tie.Need-rem-result
 rem-result c = search needs

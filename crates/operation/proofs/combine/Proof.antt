@@ -1,9 +1,9 @@
--- `value::combine`: kind by kind.
+-- `operation::combine`: kind by kind.
 use borrow.Author.Tests.{ne-eqb}
-use Rattle.value.specs.Words.{combined}
+use Rattle.operation.specs.Operation.{combined}
 use borrow.Author.Needs.{needs}
-use Rattle.value.proofs.combine.Statement.{statement}
-use Rattle.value.proofs.combine.Tie as tie
+use Rattle.operation.proofs.combine.Statement.{statement}
+use Rattle.operation.proofs.combine.Tie as tie
 
 add-result : tie.Need-add-result
 add-result c = search needs

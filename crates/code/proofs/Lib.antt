@@ -1,3 +1,4 @@
 pub mod Stores
 pub mod Pieces
 pub mod Parts
+pub mod Formed

@@ -19,7 +19,7 @@ use Rattle.declaration.specs.declared.lines.Progress as code
 use Rattle.declaration.specs.declared.lines.Status.the-variants.{Goes, Refused}
 use Rattle.declaration.specs.declared.lines.Step as taken
 use Rattle.declaration.specs.Rows.{Row}
-use Rattle.declaration.specs.Limits.{mostRegisters, mostLabels}
+use Rattle.text_limits.specs.Limits.{mostRegisters, mostLabels}
 use Rattle.declaration.specs.Lines.{Progress, Step, refused, next, widthOf, isWidth, isNewName, isNewLabel, addRegister, regLine, addLabel, atLine}
 use Rattle.declaration.specs.Stored.{progressOf, Within, Plain}
 

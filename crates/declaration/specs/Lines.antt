@@ -16,7 +16,7 @@ use Rattle.operator_names.specs.OperatorNames.{isReserved}
 use Rattle.declaration.specs.declared.faults.Fault.{Fault}
 use Rattle.declaration.specs.declared.faults.Fault.the-variants.{Line, Register, Label, Limit}
 use Rattle.declaration.specs.Rows.{Row}
-use Rattle.declaration.specs.Limits.{mostRegisters, mostLabels}
+use Rattle.text_limits.specs.Limits.{mostRegisters, mostLabels}
 
 -- the first words
 abbrev pub regWord : List ℕ

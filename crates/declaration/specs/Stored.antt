@@ -9,7 +9,7 @@ use Rattle.declaration.specs.declared.lines.Status.{Status}
 use Rattle.declaration.specs.declared.lines.Status.the-variants.{Goes, Refused}
 use Rattle.declaration.specs.declared.lines.Step as step
 use Rattle.declaration.specs.Rows.{Row}
-use Rattle.declaration.specs.Limits.{mostRegisters, mostRows, mostLabels, allPieces}
+use Rattle.text_limits.specs.Limits.{mostRegisters, mostRows, mostLabels, allPieces}
 use Rattle.declaration.specs.Lines.{Progress, Step, refused, next}
 
 -- what was read so far, by the code's numbers and the rows

@@ -12,7 +12,7 @@ ghost use Rattle.characters.specs.Characters.{same};
 ghost use Rattle.fields.specs.Fields.{field};
 ghost use Rattle.names.specs.Names.{entries};
 ghost use Rattle.declaration.specs.declared.lines.Status.the-variants.{Goes, Refused};
-ghost use Rattle.declaration.specs.Limits.{mostBytes};
+ghost use Rattle.text_limits.specs.Limits.{mostBytes};
 ghost use Rattle.declaration.specs.Lines.{regWord, atWord, among, widthOf, isWidth, isNewName, addRegister, regLine, isNewLabel, addLabel, atLine};
 ghost use Rattle.declaration.specs.Stored.{Within, Plain};
 

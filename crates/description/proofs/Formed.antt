@@ -17,13 +17,14 @@ use Rattle.characters.proofs.Cases.{by-case}
 use Rattle.characters.proofs.Strings.{equal}
 use Rattle.characters.proofs.Tests.{and-left, and-right}
 use Rattle.code.specs.Readings.{Reading, read, outside}
-use Rattle.expression.specs.Expression.{expression, Destination, destination}
-use Rattle.expression.specs.Formed.{Registers, Accepted, Reads, FormedDestination}
+use Rattle.code.specs.Tree.{Destination}
+use Rattle.expression.specs.Expression.{expression, destination}
+use Rattle.code.specs.Formed.{Registers, Accepted, Reads, FormedDestination}
 use Rattle.expression.proofs.Formed.{expression-formed, destination-formed}
 use Rattle.targets.specs.declared.Target.{Target}
 use Rattle.targets.specs.declared.Target.the-variants.{Passes, Missing}
 use Rattle.declaration.specs.Rows.{Row, does, goes, rowPieces, Description}
-use Rattle.declaration.specs.Limits.{mostBytes, mostRegisters, mostRows, mostLabels, allPieces}
+use Rattle.text_limits.specs.Limits.{mostBytes, mostRegisters, mostRows, mostLabels, allPieces}
 use Rattle.declaration.specs.Lines.{regWord, doWord, goWord, atWord, Progress, Step, refused, next, widthOf, endOf, isWidth, isNewName, addRegister, regLine, isNewLabel, addLabel, atLine}
 use Rattle.targets.specs.Targets.{isAt, isRow, further, passes}
 use Rattle.row.specs.Lines.{addRow, isSomewhere, RowReading, formed, unformed, doRow, withRow, doLine, rowsPassed, missingAt, goRow, goLine}

@@ -25,12 +25,12 @@ use Rattle.declaration.specs.declared.lines.Status.{Status}
 use Rattle.declaration.specs.declared.lines.Status.the-variants.{Goes, Refused}
 use Rattle.declaration.specs.declared.lines.Step as taken
 use Rattle.declaration.specs.Rows.{Row}
-use Rattle.declaration.specs.Limits.{mostBytes, mostRows}
+use Rattle.text_limits.specs.Limits.{mostBytes, mostRows}
 use Rattle.declaration.specs.Lines.{Progress, refused, next}
 use Rattle.declaration.specs.Stored.{progressOf, stepBy, Within}
 use Rattle.code.specs.Met.{capacity}
 use Rattle.row.specs.Cells as cells
-use Rattle.row.specs.Cells.{rowCells}
+use Rattle.row_table.specs.RowTable.{rowCells}
 use Rattle.row.specs.Stored.{Tables, Takes}
 use Rattle.line.specs.Line.{readLine, Rest}
 use Rattle.description.specs.declared.reader.Answer as reader

@@ -13,7 +13,7 @@ use Rattle.bit_parts.specs.References.{widthIn}
 use Rattle.declaration.specs.declared.faults.Fault.{Fault}
 use Rattle.declaration.specs.declared.faults.Fault.the-variants.{Size, Header, Line, Label, Run}
 use Rattle.declaration.specs.Rows.{Description}
-use Rattle.declaration.specs.Limits.{mostBytes}
+use Rattle.text_limits.specs.Limits.{mostBytes}
 use Rattle.declaration.specs.Lines.{Progress, refused, next}
 use Rattle.line.specs.Line.{readLine}
 

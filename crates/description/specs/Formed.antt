@@ -9,9 +9,9 @@ use lib.ListN.{length}
 use Rattle.characters.specs.Characters.{same}
 use Rattle.fields.specs.Fields.{Line, field}
 use Rattle.names.specs.Names.{Named}
-use Rattle.expression.specs.Formed.{Registers, Accepted, FormedDestination}
+use Rattle.code.specs.Formed.{Registers, Accepted, FormedDestination}
 use Rattle.declaration.specs.Rows.{Row, does, goes, rowPieces, Description}
-use Rattle.declaration.specs.Limits.{mostRegisters, mostRows, mostLabels, allPieces}
+use Rattle.text_limits.specs.Limits.{mostRegisters, mostRows, mostLabels, allPieces}
 use Rattle.declaration.specs.Lines.{atWord}
 use Rattle.row.specs.Lines.{isSomewhere}
 use Rattle.description.specs.Description.{hasRun}

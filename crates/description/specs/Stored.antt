@@ -11,9 +11,10 @@ use Rattle.declaration.specs.declared.lines.Progress as progress
 use Rattle.declaration.specs.Rows.{Row, Description}
 use Rattle.declaration.specs.Stored.{progressOf}
 use Rattle.code.specs.Met.{capacity}
-use Rattle.declaration.specs.Limits.{mostRows}
+use Rattle.text_limits.specs.Limits.{mostRows}
 use Rattle.declaration.specs.declared.faults.Fault.{Fault}
-use Rattle.row.specs.Cells.{rowCells, code, cells}
+use Rattle.row_table.specs.RowTable.{rowCells}
+use Rattle.row.specs.Cells.{code, cells}
 use Rattle.description.specs.declared.reader.Answer as reader
 use Rattle.description.specs.declared.reader.Verdict.{Verdict}
 use Rattle.description.specs.declared.reader.Verdict.the-variants as verdict

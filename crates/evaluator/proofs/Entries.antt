@@ -26,7 +26,7 @@ use Rattle.names.specs.declared.Dictionary.{Dictionary}
 use Rattle.characters.proofs.Tests.{by-test, and-left}
 use Rattle.bit_parts.specs.References.{widthIn}
 use Rattle.bit_parts.proofs.Listed.{entries-length, width-is}
-use Rattle.expression.proofs.Formed.{register-width}
+use Rattle.code.proofs.Formed.{register-width}
 use Rattle.declaration.specs.Rows.{Description}
 use Rattle.declaration.specs.declared.faults.Fault.{Fault}
 use Rattle.description.specs.Description.{accepted, turnedDown, runName, readText}

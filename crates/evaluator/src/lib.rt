@@ -8,7 +8,7 @@ use declaration::faults::Fault;
 use description::reader;
 use plan::PLAN_PLACES;
 use row::limits::ROWS;
-use row::limits::TABLE_CELLS;
+use row_table::TABLE_CELLS;
 use state::Reason;
 use state::Refusal;
 use state::Verdict;
@@ -17,7 +17,7 @@ ghost use mathlib.Core.Path.{_≡_};
 ghost use Prim.Native.Nat.{_≤_};
 ghost use lib.ListN.{length};
 ghost use Rattle.state.specs.Limits.{memoryWords};
-ghost use Rattle.declaration.specs.Limits.{mostRows};
+ghost use Rattle.text_limits.specs.Limits.{mostRows};
 ghost use Rattle.cycles.specs.Stored.{coursing};
 ghost use Rattle.evaluator.specs.Evaluate.{report, finished, evaluate as evaluation};
 

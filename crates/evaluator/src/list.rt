@@ -4,7 +4,7 @@ ghost use mathlib.Core.Path.{_≡_};
 ghost use mathlib.Core.List.{_++_};
 ghost use Prim.Native.Nat.{_≤_};
 ghost use lib.ListN.{length, take, drop};
-ghost use Rattle.declaration.specs.Limits.{mostRows};
+ghost use Rattle.text_limits.specs.Limits.{mostRows};
 
 // Puts the first n entries of a list at the front of a caller's.
 pub fn put_rows(rows: &mut [u8], list: &[u8; ROWS], n: usize)

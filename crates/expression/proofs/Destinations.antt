@@ -21,7 +21,8 @@ use Rattle.expression.specs.declared.Place.the-variants.{Register, Bits,
 use Rattle.code.specs.Tree.{Expr, pieces}
 use Rattle.code.specs.Readings.{Reading, read, outside}
 use Rattle.grammar.specs.Grammar.{level, fuel}
-use Rattle.expression.specs.Expression.{trimmed, mostPieces, Destination, toRegister, toPart, toMemory, nowhere, ofName, ofAddress, memoryAt, destination}
+use Rattle.code.specs.Tree.{mostPieces, Destination, toRegister, toPart, toMemory, nowhere}
+use Rattle.expression.specs.Expression.{trimmed, ofName, ofAddress, memoryAt, destination}
 use Rattle.code.specs.Met.{Held, Meets}
 use Rattle.expression.specs.Met.{Aims, Points, Addressed}
 use Rattle.grammar.proofs.Calls.{at, faulty}

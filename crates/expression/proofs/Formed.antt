@@ -32,40 +32,11 @@ use Rattle.bit_parts.proofs.Onward.{whole-known, bits-known}
 use Rattle.code.specs.Tree.{Expr, register, bitPart, constant, memory, complemented, rotated, binary, width, pieces}
 use Rattle.code.specs.Readings.{Reading, read, outside, limited, ofReference, ofConstant, notOf, closed, largestCount, turned, joined}
 use Rattle.grammar.specs.Grammar.{deepest, level, more, operation, operand, worded, negated, enclosed, fuel}
-use Rattle.expression.specs.Expression.{mostPieces, trimmed, whole, expression, toPart, ofName, ofAddress, memoryAt, destination}
-use Rattle.expression.specs.Formed.{Registers, isOf, Formed, Accepted, Reads, FormedDestination}
+use Rattle.code.specs.Tree.{mostPieces, toPart}
+use Rattle.expression.specs.Expression.{trimmed, whole, expression, ofName, ofAddress, memoryAt, destination}
+use Rattle.code.specs.Formed.{Registers, isOf, Formed, Accepted, Reads, FormedDestination}
 use Rattle.code.proofs.Parts.{row-is}
-
--- a formed tree's width: 1 to 16
-pub formed-narrow : (rs : List Named) (t : Expr) → Formed rs t → width t ≤ widest
-formed-narrow rs (register r w) h = h .narrow
-formed-narrow rs (bitPart r w a b) h = h .narrow
-formed-narrow rs (constant w v) h = h .narrow
-formed-narrow rs (memory e) h = omega arith
-formed-narrow rs (complemented e) h = formed-narrow rs e h
-formed-narrow rs (rotated o e n) h = formed-narrow rs e (h .side)
-formed-narrow rs (binary o l r) h = h .narrow
-
-pub register-width : (rs : List Named) (r : ℕ) → Registers rs → r < length rs → (1 ≤ widthIn rs r) × (widthIn rs r ≤ widest)
-register-width [] r h l = absurd (omega arith)
-register-width (e ∷ es) zero h l = (h .some, h .narrow)
-register-width (e ∷ es) (suc r) h l = register-width es r (h .others) (omega arith)
-
-joined-some : (k : Widths) (l r : ℕ) → 1 ≤ l → 1 ≤ widthBy k l r
-joined-some Left l r h = h
-joined-some Sum l r h = omega arith
-joined-some Carry l r h = omega arith
-joined-some One l r h = omega arith
-joined-some Wider l r h = omega arith
-
-pub formed-some : (rs : List Named) → Registers rs → (t : Expr) → Formed rs t → 1 ≤ width t
-formed-some rs g (register r w) h = subst (λ (n : ℕ). 1 ≤ n) (sym (h .width-is)) (register-width rs r g (h .listed) .0)
-formed-some rs g (bitPart r w a b) h = omega arith
-formed-some rs g (constant w v) h = h .some
-formed-some rs g (memory e) h = omega arith
-formed-some rs g (complemented e) h = formed-some rs g e h
-formed-some rs g (rotated o e n) h = formed-some rs g e (h .side)
-formed-some rs g (binary o l r) h = joined-some (entryIn (rowOf o) .widths) (width l) (width r) (formed-some rs g l (h .left))
+use Rattle.code.proofs.Formed.{formed-narrow}
 
 -- a row's operator is of that row's strength; past the table stands Or, the weakest
 strength-is : (row k : ℕ) → weakest < k → isOf k (entryIn row .operator) ≡ eqb (entryIn row .strength) k

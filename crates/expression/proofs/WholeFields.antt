@@ -17,7 +17,8 @@ use Rattle.operators.specs.Operators.{weakest}
 use Rattle.code.specs.Tree.{Expr, pieces}
 use Rattle.code.specs.Readings.{Reading, read, outside}
 use Rattle.grammar.specs.Grammar.{level, fuel}
-use Rattle.expression.specs.Expression.{trimmed, whole, expression, mostPieces}
+use Rattle.code.specs.Tree.{mostPieces}
+use Rattle.expression.specs.Expression.{trimmed, whole, expression}
 use Rattle.code.specs.Met.{Held, Meets, Taken, Grown}
 use Rattle.expression.specs.Met.{Same, Whole}
 use Rattle.code.proofs.Parts.{met}

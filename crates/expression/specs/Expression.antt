@@ -14,13 +14,9 @@ use Rattle.bit_parts.specs.declared.Reference.the-variants.{Whole, Part, Unknow
 use Rattle.operators.specs.Operators.{weakest}
 use Rattle.tokens.specs.Tokens.{skip, next, slice}
 use Rattle.bit_parts.specs.References.{referenceAt}
-use Rattle.code.specs.Tree.{Expr, pieces}
+use Rattle.code.specs.Tree.{Expr, pieces, mostPieces, Destination, toRegister, toPart, toMemory, nowhere}
 use Rattle.code.specs.Readings.{Reading, read, outside}
 use Rattle.grammar.specs.Grammar.{level, fuel}
-
--- "an expression has at most 32"
-abbrev pub mostPieces : ℕ
-mostPieces = 32
 
 -- "not at its ends"
 abbrev pub trimmed : List ℕ → Bool
@@ -33,13 +29,6 @@ whole s outside = outside
 -- a field that is an expression
 unfoldable pub expression : List Named → List ℕ → Reading
 expression rs s = elim (trimmed s) [ true ↦ whole s (level (fuel s) rs s 0 weakest 0) | false ↦ outside ]
-
--- "A destination is a name, a bit part `name<a>` or `name<a:b>` .., or `M[expression]`"
-pub data Destination : Type 0 where
-  toRegister : ℕ → ℕ → Destination
-  toPart : ℕ → ℕ → ℕ → ℕ → Destination
-  toMemory : Expr → Destination
-  nowhere : Destination
 
 unfoldable pub ofName : List ℕ → Reference → Destination
 ofName s (Whole r w p) = elim (eqb p (length s)) [ true ↦ toRegister r w | false ↦ nowhere ]

@@ -1,3 +1,2 @@
 pub mod Expression
 pub mod Met
-pub mod Formed

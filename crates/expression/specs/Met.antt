@@ -12,7 +12,8 @@ use Rattle.expression.specs.declared.Place.{Place}
 use Rattle.expression.specs.declared.Place.the-variants.{Register, Bits, Word, Nowhere}
 use Rattle.code.specs.Tree.{Expr, pieces}
 use Rattle.code.specs.Readings.{Reading}
-use Rattle.expression.specs.Expression.{whole, Destination, toRegister, toPart, toMemory, nowhere, ofAddress}
+use Rattle.code.specs.Tree.{Destination, toRegister, toPart, toMemory, nowhere}
+use Rattle.expression.specs.Expression.{whole, ofAddress}
 use Rattle.code.specs.Code.{codeOf}
 use Rattle.code.specs.Met.{Meets}
 

@@ -2,7 +2,7 @@
 use code::CODE_PLACES;
 use declaration::faults::Fault;
 use description::reader::Verdict;
-use row::limits::TABLE_CELLS;
+use row_table::TABLE_CELLS;
 ghost use mathlib.Core.Path.{_≡_};
 ghost use Rattle.declaration.specs.Faults.{numberOf};
 ghost use Rattle.description.specs.Description.{readText};

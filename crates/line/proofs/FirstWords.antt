@@ -19,7 +19,7 @@ use Rattle.declaration.specs.declared.faults.Fault.the-variants.{Line}
 use Rattle.declaration.specs.declared.lines.Progress as code
 use Rattle.declaration.specs.declared.lines.Status.the-variants.{Refused}
 use Rattle.declaration.specs.declared.lines.Step as taken
-use Rattle.declaration.specs.Limits.{longestLine}
+use Rattle.text_limits.specs.Limits.{longestLine}
 use Rattle.declaration.specs.Lines.{regWord, doWord, goWord, atWord, Progress, refused, regLine, atLine}
 use Rattle.declaration.specs.Stored.{progressOf, Within}
 use Rattle.row.specs.Lines.{doLine, goLine}

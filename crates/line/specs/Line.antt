@@ -11,7 +11,7 @@ use Rattle.characters.specs.declared.Class.the-variants.{Printable}
 use Rattle.fields.specs.Fields as text
 use Rattle.fields.specs.Fields.{field}
 use Rattle.declaration.specs.declared.faults.Fault.the-variants.{Line}
-use Rattle.declaration.specs.Limits.{longestLine}
+use Rattle.text_limits.specs.Limits.{longestLine}
 use Rattle.declaration.specs.Lines.{Progress, refused, regWord, doWord, goWord, atWord, Step, regLine, atLine}
 use Rattle.row.specs.Lines.{goLine, doLine}
 

@@ -14,7 +14,8 @@ use Rattle.code.specs.declared.Cursor.{Cursor}
 use Rattle.code.specs.Tree.{Expr, pieces}
 use Rattle.code.specs.Code.{codeOf}
 use Rattle.code.specs.Readings.{Reading, read, outside}
-use Rattle.expression.specs.Expression.{Destination, toRegister, toPart, nowhere, expression, destination}
+use Rattle.code.specs.Tree.{Destination, toRegister, toPart, nowhere}
+use Rattle.expression.specs.Expression.{expression, destination}
 use Rattle.code.specs.Met.{Held}
 use Rattle.expression.specs.Met.{Address, Aims}
 use Rattle.expression.specs.declared.Place.{Place}

@@ -28,13 +28,14 @@ use Rattle.declaration.specs.declared.lines.Status.the-variants.{Goes, Refused}
 use Rattle.declaration.specs.declared.lines.Step as taken
 use Rattle.targets.specs.declared.Target.{Target}
 use Rattle.declaration.specs.Rows.{Row, goes, rowPieces}
-use Rattle.declaration.specs.Limits.{mostRows, allPieces}
+use Rattle.text_limits.specs.Limits.{mostRows, allPieces}
 use Rattle.declaration.specs.Lines.{Progress, Step, refused, next}
 use Rattle.targets.specs.Targets.{passes}
 use Rattle.declaration.specs.Stored.{progressOf, Within, Plain}
 use Rattle.row.specs.declared.actions.RowRead.{RowRead}
 use Rattle.row.specs.Lines.{addRow, RowReading, formed, unformed, doRow, withRow, doLine, rowsPassed, missingAt, goRow, goLine}
-use Rattle.row.specs.Cells.{rowCells, goCells}
+use Rattle.row_table.specs.RowTable.{rowCells}
+use Rattle.row.specs.Cells.{goCells}
 use Rattle.row.specs.Stored.{Tables, Comes, Takes, hasRoom, oneMore, Put, Forming, Jumps, Assigns, Rows}
 use Rattle.row.proofs.Tables.{tables-more, row-code-pieces}
 

@@ -9,11 +9,12 @@ use native.Mathlib.Omega.{arith}
 use lib.ListN.{length, getD, take, set, length-append}
 use lib.Seq.{sets, take-suc, length-take-le}
 use Rattle.code.specs.Code.{codeOf}
-use Rattle.expression.specs.Expression.{Destination, toRegister, toPart, toMemory, nowhere}
+use Rattle.code.specs.Tree.{Destination, toRegister, toPart, toMemory, nowhere}
 use Rattle.code.proofs.Stores.{sets-behind}
 use Rattle.code.proofs.Pieces.{code-pieces}
 use Rattle.declaration.specs.Rows.{Row, does, goes, rowPieces, addressPieces}
-use Rattle.row.specs.Cells.{rowCells, addressCode, rowCode, code, cellsOf, cells}
+use Rattle.row_table.specs.RowTable.{rowCells}
+use Rattle.row.specs.Cells.{addressCode, rowCode, code, cellsOf, cells}
 use Rattle.row.specs.Stored.{Tables}
 
 -- one cell more

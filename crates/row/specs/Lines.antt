@@ -10,12 +10,13 @@ use Rattle.fields.specs.Fields as text
 use Rattle.fields.specs.Fields.{field, hasFields}
 use Rattle.names.specs.Names.{isName}
 use Rattle.code.specs.Readings.{Reading, read, outside}
-use Rattle.expression.specs.Expression.{expression, Destination, toRegister, toPart, toMemory, nowhere, destination}
+use Rattle.code.specs.Tree.{Destination, toRegister, toPart, toMemory, nowhere}
+use Rattle.expression.specs.Expression.{expression, destination}
 use Rattle.declaration.specs.declared.faults.Fault.the-variants.{Line, Expression, Label, Limit}
 use Rattle.targets.specs.declared.Target.{Target}
 use Rattle.targets.specs.declared.Target.the-variants.{Passes, Missing}
 use Rattle.declaration.specs.Rows.{Row, does, goes, rowPieces}
-use Rattle.declaration.specs.Limits.{mostRows, allPieces}
+use Rattle.text_limits.specs.Limits.{mostRows, allPieces}
 use Rattle.declaration.specs.Lines.{Progress, Step, refused, next}
 use Rattle.targets.specs.Targets.{passes}
 

@@ -13,7 +13,8 @@ use Rattle.fields.specs.Fields.{field}
 use Rattle.names.specs.Names.{Named, isName}
 use Rattle.code.specs.Tree.{Expr}
 use Rattle.code.specs.Readings.{read}
-use Rattle.expression.specs.Expression.{Destination, expression, destination}
+use Rattle.code.specs.Tree.{Destination}
+use Rattle.expression.specs.Expression.{expression, destination}
 use Rattle.expression.specs.declared.Place.{Place}
 use Rattle.expression.specs.declared.Place.the-variants.{Register, Bits, Word, Nowhere}
 use Rattle.code.specs.Met.{Held}
@@ -23,14 +24,15 @@ use Rattle.declaration.specs.declared.lines.Progress as progress
 use Rattle.declaration.specs.declared.lines.Status.the-variants.{Goes, Refused}
 use Rattle.declaration.specs.declared.lines.Step as step
 use Rattle.declaration.specs.Rows.{Row, rowPieces, addressPieces}
-use Rattle.declaration.specs.Limits.{mostRows, allPieces}
+use Rattle.text_limits.specs.Limits.{mostRows, allPieces}
 use Rattle.declaration.specs.Lines.{Progress, Step}
 use Rattle.declaration.specs.Stored.{progressOf, stepOf, Within}
 use Rattle.targets.specs.Targets.{passes}
 use Rattle.row.specs.declared.cells.Aim.{Aim}
 use Rattle.row.specs.declared.actions.RowRead.{RowRead}
 use Rattle.row.specs.Lines.{isSomewhere, RowReading, formed, unformed, doRow, rowsPassed, missingAt}
-use Rattle.row.specs.Cells.{rowCells, goCells, addressCode, rowCode, code, kindOf, registerOf, rightOf, sizeOf, cellsOf, cells}
+use Rattle.row_table.specs.RowTable.{rowCells}
+use Rattle.row.specs.Cells.{goCells, addressCode, rowCode, code, kindOf, registerOf, rightOf, sizeOf, cellsOf, cells}
 
 -- the lent tables hold the words of so many rows, and are else as they came
 pub record Tables (rs : List Row) (rows words : ℕ) (code₀ code₁ table₀ table₁ : List ℕ) : Type 0 where

@@ -1,7 +1,6 @@
 // The row of a `do` line: condition, destination and value.
 use crate::cells;
 use crate::cells::Aim;
-use crate::cells::ROW_CELLS;
 use code::CODE_PLACES;
 use code::Cursor;
 use code::Part;
@@ -9,6 +8,7 @@ use expression::Place;
 use expression::read_destination;
 use expression::read_expression;
 use names::Dictionary;
+use row_table::ROW_CELLS;
 ghost use mathlib.Core.Path.{_≡_};
 ghost use mathlib.Core.Bool.{false};
 ghost use Prim.Native.Nat.{_+_, _≤_};

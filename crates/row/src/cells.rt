@@ -1,16 +1,14 @@
 // The cells of a row in the table of rows.
-use crate::limits::TABLE_CELLS;
 use code::Cursor;
+use row_table::ROW_CELLS;
+use row_table::TABLE_CELLS;
 ghost use mathlib.Core.Path.{_≡_};
 ghost use Prim.Native.Nat.{_*_, _≤_, _<_};
 ghost use lib.Seq.{sets};
 ghost use Rattle.code.specs.Met.{capacity};
-ghost use Rattle.declaration.specs.Limits.{mostRows};
-ghost use Rattle.row.specs.Cells.{rowCells, goCells, doCells};
-
-// The cells of a row: kind; where its condition's words start and end; where its address's and its value's end; register, right end and size of its
-// destination; rows passed over.
-pub(crate) const ROW_CELLS: usize = 9;
+ghost use Rattle.text_limits.specs.Limits.{mostRows};
+ghost use Rattle.row_table.specs.RowTable.{rowCells};
+ghost use Rattle.row.specs.Cells.{goCells, doCells};
 
 // Where a row's value goes: the cells of its destination, and how far its address reaches.
 pub struct Aim {

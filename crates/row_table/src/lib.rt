@@ -1,15 +1,21 @@
 // The table of rows: nine cells for each row, one row behind the other.
-use row::limits::TABLE_CELLS;
 ghost use mathlib.Core.Path.{_≡_};
 ghost use Prim.Native.Nat.{_*_, _+_, _<_};
 ghost use lib.ListN.{getD};
-ghost use Rattle.declaration.specs.Limits.{mostRows};
-ghost use Rattle.row.specs.Cells.{rowCells};
+ghost use Rattle.text_limits.specs.Limits.{mostRows};
+ghost use Rattle.row_table.specs.RowTable.{rowCells};
+
+// The cells of a row: kind; where its condition's words start and end; where its address's and its value's end; register, right end and size of its
+// destination; rows passed over.
+pub const ROW_CELLS: usize = 9;
+
+// The cells of 128 rows.
+pub const TABLE_CELLS: usize = 1152;
 
 // Cell j of a row of the table.
 pub fn cell(table: &[u16; TABLE_CELLS], row: usize, j: usize) -> u16
     requires { ⌜ row < mostRows ⌝ ∗ ⌜ j < rowCells ⌝ }
     ensures { λ r. ⌜ r ≡ getD (now (table .entry)) (rowCells * row + j) 0 ⌝ }
 {
-    table[9 * row + j]
+    table[ROW_CELLS * row + j]
 }

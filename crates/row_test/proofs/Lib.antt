@@ -1,1 +1,1 @@
-mod Modes
+mod Sums

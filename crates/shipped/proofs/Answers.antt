@@ -7,7 +7,7 @@ use lib.ListN.{length}
 use Rattle.machine.specs.declared.Machine.{Machine}
 use Rattle.emulator.specs.Emulate as emulator
 use Rattle.emulator.specs.Emulate.{emulate}
-use Rattle.declaration.specs.Limits.{mostRegisters}
+use Rattle.text_limits.specs.Limits.{mostRegisters}
 use Rattle.evaluator.specs.Evaluate as evaluator
 use Rattle.evaluator.specs.Evaluate.{evaluate}
 use Rattle.pdp8_rows.specs.Text.{shippedText}

@@ -14,7 +14,7 @@ use Rattle.machine.specs.declared.Machine.{Machine}
 use Rattle.machine.specs.State.{values}
 use Rattle.emulator.specs.Emulate as emulator
 use Rattle.emulator.specs.Emulate.{emulate}
-use Rattle.declaration.specs.Limits.{mostRegisters}
+use Rattle.text_limits.specs.Limits.{mostRegisters}
 use Rattle.description.specs.Description as text
 use Rattle.evaluator.specs.Evaluate.{Report, refused, finished, widthsOf, check, evaluateOf, evaluate}
 use Rattle.pdp8_rows.specs.Text.{shippedText}

@@ -12,7 +12,7 @@ use Rattle.machine.specs.State.{widths, values, start}
 use Rattle.pdp8.specs.Run as steps
 use Rattle.emulator.specs.Emulate as emulator
 use Rattle.emulator.specs.Emulate.{emulate}
-use Rattle.declaration.specs.Limits.{mostRegisters}
+use Rattle.text_limits.specs.Limits.{mostRegisters}
 use Rattle.description.specs.Description.{accepted, readText}
 use Rattle.cycles.specs.Run as cycles
 use Rattle.evaluator.specs.Evaluate as evaluator

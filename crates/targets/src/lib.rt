@@ -4,7 +4,7 @@ ghost use mathlib.Core.Path.{_≡_};
 ghost use Prim.Native.Nat.{_≤_};
 ghost use lib.ListN.{length};
 ghost use Rattle.fields.specs.Fields.{lines};
-ghost use Rattle.declaration.specs.Limits.{mostBytes};
+ghost use Rattle.text_limits.specs.Limits.{mostBytes};
 ghost use Rattle.targets.specs.Targets.{isAt, isRow, passes as Targets·passes};
 
 // The rows that a `go` passes over, or that its label isn't lower down.

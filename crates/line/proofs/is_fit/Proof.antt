@@ -8,7 +8,7 @@ use Rattle.fields.specs.Fields.{lineFeed, until}
 use Rattle.characters.specs.declared.Class.the-variants.{Printable}
 use Rattle.fields.proofs.Lines.{before-length}
 use Rattle.characters.proofs.Runs.{from-start}
-use Rattle.declaration.specs.Limits.{longestLine}
+use Rattle.text_limits.specs.Limits.{longestLine}
 use borrow.Author.Needs.{needs}
 use Rattle.line.proofs.is_fit.Statement.{statement}
 use Rattle.line.proofs.is_fit.Tie as tie

@@ -5,7 +5,7 @@ use Prim.Native.Nat.{ℕ, _+_, _-_, _*_, _≤_}
 use native.Mathlib.Omega.{arith}
 use lib.ListN.{take, set, getD}
 use lib.Seq.{sets, take-all}
-use Rattle.row.specs.Cells.{rowCells}
+use Rattle.row_table.specs.RowTable.{rowCells}
 use Rattle.row.proofs.Tables.{one-cell}
 use borrow.Author.Needs.{needs}
 use Rattle.row.proofs.cells.put_row.Statement.{statement}

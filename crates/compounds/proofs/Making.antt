@@ -23,8 +23,7 @@ use Rattle.code.specs.Readings.{Reading, read, outside, limited, inside, closed
 use Rattle.code.specs.Code.{codeOf}
 use Rattle.code.specs.Met.{Held, Meets, Made, Behind, Combined, Turned}
 use Rattle.bit_parts.proofs.Onward.{Past}
-use Rattle.code.proofs.Parts.{met}
-use Rattle.code.proofs.Parts.{behind, over, over-both, row-is, is-limited, too-wide}
+use Rattle.code.proofs.Parts.{met, behind, over, over-both, row-is, is-limited, too-wide}
 
 -- brackets
 module _ (s : List ℕ) (close : ℕ) (c : Cursor) (w : ℕ) (now : List ℕ) where

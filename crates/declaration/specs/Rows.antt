@@ -4,8 +4,7 @@
 use Prim.Native.Nat.{ℕ, _+_}
 use mathlib.Core.List.{List}
 use Rattle.names.specs.Names.{Named}
-use Rattle.code.specs.Tree.{Expr, pieces}
-use Rattle.code.specs.Tree.{Destination, toRegister, toPart, toMemory, nowhere}
+use Rattle.code.specs.Tree.{Expr, pieces, Destination, toRegister, toPart, toMemory, nowhere}
 
 pub data Row : Type 0 where
   -- "`do`, condition, destination, expression"

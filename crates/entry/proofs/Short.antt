@@ -21,8 +21,7 @@ use Rattle.characters.proofs.Cases.{by-case}
 use Rattle.fields.proofs.Lines.{before-length}
 use Rattle.characters.proofs.Strings.{equal}
 use Rattle.characters.proofs.Tests.{and-left, and-right, by-test}
-use Rattle.entry.specs.Lines.{machineRegisters, digitsOf, isDigits, wordEntry, registerEntry, budgetEntry, said, entry, isUnfit}
-use Rattle.entry.specs.Lines.{lineBytes}
+use Rattle.entry.specs.Lines.{machineRegisters, digitsOf, isDigits, wordEntry, registerEntry, budgetEntry, said, entry, isUnfit, lineBytes}
 use Rattle.entry.specs.declared.Entry.{Entry}
 use Rattle.entry.specs.declared.Entry.the-variants.{Word, Register, Budget, Unfit}
 use Rattle.entry.proofs.Digits.{digits-size, width-le}

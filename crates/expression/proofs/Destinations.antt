@@ -18,10 +18,9 @@ use Rattle.code.specs.declared.Cursor.{Cursor}
 use Rattle.code.specs.declared.Part.the-variants.{Fault}
 use Rattle.expression.specs.declared.Place.{Place}
 use Rattle.expression.specs.declared.Place.the-variants.{Register, Bits, Word, Nowhere}
-use Rattle.code.specs.Tree.{Expr, pieces}
+use Rattle.code.specs.Tree.{Expr, pieces, mostPieces, Destination, toRegister, toPart, toMemory, nowhere}
 use Rattle.code.specs.Readings.{Reading, read, outside}
 use Rattle.grammar.specs.Grammar.{level, fuel}
-use Rattle.code.specs.Tree.{mostPieces, Destination, toRegister, toPart, toMemory, nowhere}
 use Rattle.expression.specs.Expression.{trimmed, ofName, ofAddress, memoryAt, destination}
 use Rattle.code.specs.Met.{Held, Meets}
 use Rattle.expression.specs.Met.{Aims, Points, Addressed}

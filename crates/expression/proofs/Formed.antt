@@ -21,20 +21,17 @@ use Rattle.characters.proofs.Cases.{by-case}
 use Rattle.characters.proofs.Tests.{by-test, and-right}
 use Rattle.constants.proofs.Widths.{Fitting, constant-fits}
 use Rattle.operators.specs.declared.Entry.{Entry}
-use Rattle.operators.specs.declared.Widths.{Widths}
-use Rattle.operators.specs.declared.Widths.the-variants.{Left, Sum, Carry, One, Wider}
 use Rattle.bit_parts.specs.declared.Reference.{Reference}
 use Rattle.bit_parts.specs.declared.Reference.the-variants.{Whole, Part, Unknown}
-use Rattle.operators.specs.Operators.{table, noEntry, rowOf, entryIn, weakest, strongest, rotations, widthBy}
+use Rattle.operators.specs.Operators.{table, noEntry, rowOf, entryIn, weakest, strongest, rotations}
 use Rattle.tokens.specs.Tokens.{skip, next, slice, operatorAt, operatorEnd}
-use Rattle.bit_parts.specs.References.{widthIn, referenceAt}
+use Rattle.bit_parts.specs.References.{referenceAt}
 use Rattle.bit_parts.proofs.Onward.{whole-known, bits-known}
-use Rattle.code.specs.Tree.{Expr, register, bitPart, constant, memory, complemented, rotated, binary, width, pieces}
+use Rattle.code.specs.Tree.{Expr, register, bitPart, constant, binary, width, pieces, mostPieces, toPart}
 use Rattle.code.specs.Readings.{Reading, read, outside, limited, ofReference, ofConstant, notOf, closed, largestCount, turned, joined}
 use Rattle.grammar.specs.Grammar.{deepest, level, more, operation, operand, worded, negated, enclosed, fuel}
-use Rattle.code.specs.Tree.{mostPieces, toPart}
 use Rattle.expression.specs.Expression.{trimmed, whole, expression, ofName, ofAddress, memoryAt, destination}
-use Rattle.code.specs.Formed.{Registers, isOf, Formed, Accepted, Reads, FormedDestination}
+use Rattle.code.specs.Formed.{isOf, Formed, Accepted, Reads, FormedDestination}
 use Rattle.code.proofs.Parts.{row-is}
 use Rattle.code.proofs.Formed.{formed-narrow}
 

@@ -14,10 +14,9 @@ use Rattle.code.specs.declared.Cursor.{Cursor}
 use Rattle.code.specs.declared.Part.{Part}
 use Rattle.code.specs.declared.Part.the-variants.{Found, Fault}
 use Rattle.operators.specs.Operators.{weakest}
-use Rattle.code.specs.Tree.{Expr, pieces}
+use Rattle.code.specs.Tree.{Expr, pieces, mostPieces}
 use Rattle.code.specs.Readings.{Reading, read, outside}
 use Rattle.grammar.specs.Grammar.{level, fuel}
-use Rattle.code.specs.Tree.{mostPieces}
 use Rattle.expression.specs.Expression.{trimmed, whole, expression}
 use Rattle.code.specs.Met.{Held, Meets, Taken, Grown}
 use Rattle.expression.specs.Met.{Same, Whole}

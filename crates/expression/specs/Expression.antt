@@ -14,7 +14,7 @@ use Rattle.bit_parts.specs.declared.Reference.the-variants.{Whole, Part, Unknow
 use Rattle.operators.specs.Operators.{weakest}
 use Rattle.tokens.specs.Tokens.{skip, next, slice}
 use Rattle.bit_parts.specs.References.{referenceAt}
-use Rattle.code.specs.Tree.{Expr, pieces, mostPieces, Destination, toRegister, toPart, toMemory, nowhere}
+use Rattle.code.specs.Tree.{pieces, mostPieces, Destination, toRegister, toPart, toMemory, nowhere}
 use Rattle.code.specs.Readings.{Reading, read, outside}
 use Rattle.grammar.specs.Grammar.{level, fuel}
 

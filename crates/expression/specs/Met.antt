@@ -10,9 +10,8 @@ use Rattle.code.specs.declared.Part.{Part}
 use Rattle.code.specs.declared.Part.the-variants.{Found, Fault}
 use Rattle.expression.specs.declared.Place.{Place}
 use Rattle.expression.specs.declared.Place.the-variants.{Register, Bits, Word, Nowhere}
-use Rattle.code.specs.Tree.{Expr, pieces}
+use Rattle.code.specs.Tree.{Expr, pieces, Destination, toRegister, toPart, toMemory, nowhere}
 use Rattle.code.specs.Readings.{Reading}
-use Rattle.code.specs.Tree.{Destination, toRegister, toPart, toMemory, nowhere}
 use Rattle.expression.specs.Expression.{whole, ofAddress}
 use Rattle.code.specs.Code.{codeOf}
 use Rattle.code.specs.Met.{Meets}

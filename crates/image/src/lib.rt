@@ -5,8 +5,7 @@ use state::MEMORY_WORDS;
 ghost use mathlib.Core.Path.{_≡_};
 ghost use mathlib.Core.List.{[]};
 ghost use Rattle.image.specs.Input.{form};
-ghost use Rattle.image.specs.Scan.{held, fresh, shifted, scanByte, scanOf, unfitLine, Scanned};
-ghost use Rattle.image.specs.Scan.{accepted as Scan·accepted};
+ghost use Rattle.image.specs.Scan.{held, fresh, shifted, scanByte, scanOf, unfitLine, Scanned, accepted as Scan·accepted};
 
 // The place in the input: the line's number from 1, the bytes read of it, the address and the word so far, and the first line
 // that was refused, or 0.

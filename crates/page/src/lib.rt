@@ -3,8 +3,7 @@ ghost use Prim.Native.Nat.{_+_, _<_, _≤_};
 ghost use mathlib.Core.List.{[], _∷_};
 ghost use lib.ListN.{length};
 ghost use mathlib.Core.Path.{_≡_};
-ghost use Rattle.page.specs.Text.{tab, octal, decimal};
-ghost use Rattle.page.specs.Text.{digit as Text·digit};
+ghost use Rattle.page.specs.Text.{tab, octal, decimal, digit as Text·digit};
 ghost use Rattle.page.specs.Written.{Written};
 
 pub const TAB: u8 = 9;

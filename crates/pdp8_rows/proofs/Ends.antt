@@ -9,8 +9,7 @@ use lib.ListN.{drop}
 use Rattle.word.specs.Choice.{on, pick}
 use Rattle.word.proofs.Choice.{case-true, case-false}
 use Rattle.machine.specs.State.{State}
-use Rattle.code.specs.Tree.{Expr}
-use Rattle.code.specs.Tree.{Destination}
+use Rattle.code.specs.Tree.{Expr, Destination}
 use Rattle.declaration.specs.Rows.{Row, does, goes}
 use Rattle.value.specs.Value as rows
 use Rattle.value.specs.Value.{value, store}

@@ -15,8 +15,7 @@ use Rattle.machine.specs.State.{State, Good, lacBits, withLac, ac, withAc, with
 use Rattle.machine.specs.Instruction.{flag}
 use Rattle.machine.specs.Interrupt.{interruptTest}
 use Rattle.operators.specs.declared.Operator.the-variants.{RotateLeft, RotateRight}
-use Rattle.code.specs.Tree.{register, bitPart, constant, rotated}
-use Rattle.code.specs.Tree.{toRegister}
+use Rattle.code.specs.Tree.{register, bitPart, constant, rotated, toRegister}
 use Rattle.declaration.specs.Rows.{Row, does, goes}
 use Rattle.value.specs.Value as rows
 use Rattle.operate.specs.Operate as machine

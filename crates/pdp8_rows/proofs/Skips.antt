@@ -15,8 +15,7 @@ use Rattle.machine.specs.State.{State, Good, withLac, withPc, withRun, link, ac
 use Rattle.machine.specs.Instruction.{flag}
 use Rattle.machine.specs.Interrupt.{interruptTest}
 use Rattle.machine.proofs.Lac.{ac-lt}
-use Rattle.code.specs.Tree.{Expr, constant}
-use Rattle.code.specs.Tree.{toRegister}
+use Rattle.code.specs.Tree.{Expr, constant, toRegister}
 use Rattle.declaration.specs.Rows.{Row, does}
 use Rattle.value.specs.Value as rows
 use Rattle.value.specs.Value.{value}

@@ -4,8 +4,7 @@ use mathlib.Core.List.{List, [], _∷_}
 use Prim.Native.Nat.{ℕ}
 use Rattle.names.specs.Names.{Named}
 use Rattle.operators.specs.declared.Operator.the-variants.{Join, RotateLeft, RotateRight, Add, Equal, Unequal, And, Or}
-use Rattle.code.specs.Tree.{Expr, register, bitPart, constant, memory, complemented, rotated, binary}
-use Rattle.code.specs.Tree.{toRegister, toPart, toMemory}
+use Rattle.code.specs.Tree.{Expr, register, bitPart, constant, memory, complemented, rotated, binary, toRegister, toPart, toMemory}
 use Rattle.declaration.specs.Rows.{Row, does, goes, Description}
 
 -- "the shipped description (at most 80 rows)"

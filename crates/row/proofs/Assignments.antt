@@ -11,10 +11,9 @@ use lib.Seq.{sets}
 use Rattle.fields.specs.Fields.{field}
 use Rattle.names.specs.Names.{Named}
 use Rattle.code.specs.declared.Cursor.{Cursor}
-use Rattle.code.specs.Tree.{Expr, pieces}
+use Rattle.code.specs.Tree.{Expr, pieces, Destination, toRegister, toPart, nowhere}
 use Rattle.code.specs.Code.{codeOf}
 use Rattle.code.specs.Readings.{Reading, read, outside}
-use Rattle.code.specs.Tree.{Destination, toRegister, toPart, nowhere}
 use Rattle.expression.specs.Expression.{expression, destination}
 use Rattle.code.specs.Met.{Held}
 use Rattle.expression.specs.Met.{Address, Aims}

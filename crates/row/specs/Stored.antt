@@ -11,9 +11,8 @@ use Rattle.word.specs.Choice.{pick}
 use Rattle.fields.specs.Fields as text
 use Rattle.fields.specs.Fields.{field}
 use Rattle.names.specs.Names.{Named, isName}
-use Rattle.code.specs.Tree.{Expr}
+use Rattle.code.specs.Tree.{Expr, Destination}
 use Rattle.code.specs.Readings.{read}
-use Rattle.code.specs.Tree.{Destination}
 use Rattle.expression.specs.Expression.{expression, destination}
 use Rattle.expression.specs.declared.Place.{Place}
 use Rattle.expression.specs.declared.Place.the-variants.{Register, Bits, Word, Nowhere}

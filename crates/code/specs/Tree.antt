@@ -1,4 +1,4 @@
--- The syntax tree of an expression, its width and its pieces. A register's number and width stand in the tree; whole registers are kept
+-- The syntax tree of an expression, its width and its pieces, and the destinations. A register's number and width stand in the tree; whole registers are kept
 -- apart from bit parts.
 -- Assumes nothing.
 use Prim.Native.Nat.{ℕ, _+_, _-_}

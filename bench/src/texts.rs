@@ -12,7 +12,7 @@ fn row(n: usize, bytes: usize) -> String {
     format!("{}{} Or #7", start, " ".repeat(bytes - start.len() - 6))
 }
 
-/// An accepted text of exactly so many bytes, with as many rows as 7 pieces each and 128 bytes a row allow.
+/// An accepted text of exactly so many bytes: rows of 8 pieces and 126 bytes, the last one longer.
 pub fn dense(bytes: usize) -> Vec<u8> {
     let mut text = String::from("rows\t1\nreg\tRUN\t1\n");
     for n in 0..15 {

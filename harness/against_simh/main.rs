@@ -3,17 +3,16 @@
 //! WORK is a folder for tapes and the command file. All images are run in one process of SIMH.
 
 mod images;
+#[path = "../library.rs"]
+mod library;
 #[path = "../compare/random.rs"]
 mod random;
 
 use images::{comparable, expectations, from_tape, random_image, tape, Image};
+use library::guavachisel_emulate;
 use random::Random;
 use std::fs;
 use std::process::{exit, Command, Stdio};
-
-extern "C" {
-    fn guavachisel_emulate(memory: *mut u16, words: usize, registers: *mut u16, budget: u64, outcome: *mut u64);
-}
 
 /// What both machines have at the end.
 #[derive(PartialEq)]

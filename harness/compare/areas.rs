@@ -24,10 +24,8 @@ pub const AREAS: [(&str, u64); 10] = [
     ("evaluate-state", 20_000),
     ("shipped", 6_000),
 ];
-pub const LIMITS: usize = 2;
-pub const EDGES: usize = 3;
-/// The listing's cases are made in listings.rs.
-pub const LISTING: usize = 10;
+/// The listing's cases are made in listings.rs; their numbers come after those of the areas.
+pub const LISTING: usize = AREAS.len();
 
 pub struct Maker {
     pub seed: u64,
@@ -43,54 +41,60 @@ impl Maker {
 
     /// How many cases an area has, at so many percent of the usual; each limit and edge is tried once.
     pub fn count(&self, area: usize, percent: u64) -> u64 {
-        match area {
-            LIMITS => self.limits.len() as u64,
-            EDGES => self.edges.len() as u64,
-            _ => AREAS[area].1 * percent / 100,
+        match AREAS[area] {
+            ("limits", _) => self.limits.len() as u64,
+            ("edges", _) => self.edges.len() as u64,
+            (_, cases) => cases * percent / 100,
         }
     }
 
     /// A limit or edge that a case is about: its name, and whether it is passed.
     pub fn limit(&self, area: usize, case: u64) -> Option<(&'static str, bool)> {
-        match area {
-            LIMITS => Some((self.limits[case as usize].name, self.limits[case as usize].past)),
-            EDGES => Some((self.edges[case as usize].name, self.edges[case as usize].past)),
+        match AREAS[area].0 {
+            "limits" => Some((self.limits[case as usize].name, self.limits[case as usize].past)),
+            "edges" => self.edge(area, case).map(|edge| (edge.name, edge.past)),
             _ => None,
         }
+    }
+
+    /// The edge that a case of area `edges` is.
+    pub fn edge(&self, area: usize, case: u64) -> Option<&Edge> {
+        if AREAS[area].0 == "edges" { self.edges.get(case as usize) } else { None }
     }
 
     /// What is compared under one number.
     pub fn cases(&self, area: usize, case: u64) -> Vec<Case> {
         let mut random = Random::of_case(self.seed, area, case);
         let r = &mut random;
-        match area {
-            0 => vec![Case::Emulate(images::start(r))],
-            1 => vec![bad_emulation(r)],
-            2 => {
+        match AREAS[area].0 {
+            "emulate" => vec![Case::Emulate(images::start(r))],
+            "emulate-state" => vec![bad_emulation(r)],
+            "limits" => {
                 let limit = &self.limits[case as usize];
                 vec![Case::Known(limit.text.clone(), limit.answer), Case::Evaluate(with_state(r, limit.text.clone()))]
             }
-            3 => vec![self.edges[case as usize].case.clone()],
-            4 => vec![Case::Emulate(images::one_word(r, (case % 4096) as u16))],
-            5 => {
+            "edges" => vec![self.edges[case as usize].case.clone()],
+            "words" => vec![Case::Emulate(images::one_word(r, (case % 4096) as u16))],
+            "texts" => {
                 let text = texts::text(r).0;
                 both(r, text)
             }
-            6 => {
+            "damaged" => {
                 let mut text = texts::text(r).0;
                 damage(r, &mut text);
                 both(r, text)
             }
-            7 => {
+            "damaged-limits" => {
                 let mut text = r.pick(&self.limits).text.clone();
                 damage(r, &mut text);
                 both(r, text)
             }
-            8 => {
+            "evaluate-state" => {
                 let text = if r.once_in(10) { r.pick(&self.limits).text.clone() } else { texts::text(r).0 };
                 vec![bad_evaluation(r, text)]
             }
-            _ => vec![Case::Shipped(shipped(r, &self.shipped))],
+            "shipped" => vec![Case::Shipped(shipped(r, &self.shipped))],
+            name => unreachable!("no area {}", name),
         }
     }
 }

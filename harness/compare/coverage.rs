@@ -12,8 +12,18 @@ pub struct Coverage {
     words: Vec<u64>,
     /// Addresses that the run stored to.
     stored: Vec<bool>,
+    /// How often each of EVENTS happened.
     events: [u64; 7],
 }
+
+/// Places in EVENTS.
+const OWN_PAGE_END: usize = 0;
+const POINTER_INCREASED: usize = 1;
+const REWRITTEN: usize = 2;
+const SKIP: usize = 3;
+const INTERRUPT: usize = 4;
+const LAST_WORD: usize = 5;
+const BESIDE_POINTERS: usize = 6;
 
 const EVENTS: [&str; 7] = [
     "a page taken from the last word of a page",
@@ -204,16 +214,16 @@ impl Watch for Coverage {
         match event {
             Event::Fetched(pc, i) => {
                 self.words[i as usize] += 1;
-                self.events[2] += u64::from(self.stored[pc as usize]);
-                self.events[5] += u64::from(pc == 0o7777);
+                self.events[REWRITTEN] += u64::from(self.stored[pc as usize]);
+                self.events[LAST_WORD] += u64::from(pc == 0o7777);
                 let first = i & 0o177;
-                self.events[6] += u64::from(i < 0o6000 && i & 0o600 == 0o400 && (first == 0o7 || first == 0o20));
+                self.events[BESIDE_POINTERS] += u64::from(i < 0o6000 && i & 0o600 == 0o400 && (first == 0o7 || first == 0o20));
             }
-            Event::PageEnd => self.events[0] += 1,
-            Event::AutoIndexed(_) => self.events[1] += 1,
+            Event::PageEnd => self.events[OWN_PAGE_END] += 1,
+            Event::AutoIndexed(_) => self.events[POINTER_INCREASED] += 1,
             Event::Stored(address) => self.stored[address as usize] = true,
-            Event::Skipped => self.events[3] += 1,
-            Event::Interrupted => self.events[4] += 1,
+            Event::Skipped => self.events[SKIP] += 1,
+            Event::Interrupted => self.events[INTERRUPT] += 1,
         }
     }
 }

@@ -1,4 +1,4 @@
-//! The listing program beside the Rust listing, on random images, most of them damaged.
+//! The listing program beside the Rust listing, on random images, about half of them damaged.
 
 use crate::areas::LISTING;
 use crate::images::instruction;

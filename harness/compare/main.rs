@@ -20,7 +20,7 @@ mod shrink;
 mod states;
 mod texts;
 
-use areas::{Maker, AREAS, EDGES};
+use areas::{Maker, AREAS};
 use coverage::Coverage;
 use std::ops::Range;
 use std::process::exit;
@@ -99,11 +99,9 @@ fn compare_cases(maker: &Maker, area: usize, range: Range<u64>) -> (u64, Coverag
         if let Some((name, past)) = maker.limit(area, number) {
             coverage.count(&format!("{}: {}", if past { "one past" } else { "exactly" }, name));
         }
-        if area == EDGES {
-            if let Some(found) = edges::unmet(&maker.edges[number as usize]) {
-                let _alone = REPORT.lock();
-                fail(AREAS[area].0, maker.seed, number, &found);
-            }
+        if let Some(found) = maker.edge(area, number).and_then(edges::unmet) {
+            let _alone = REPORT.lock();
+            fail(AREAS[area].0, maker.seed, number, &found);
         }
         for case in maker.cases(area, number) {
             compared += 1;

@@ -19,7 +19,7 @@ fn differs(case: &Case) -> bool {
     check(case, &mut Coverage::new()).is_some()
 }
 
-/// The smallest budget that still differs, then words cleared or lines dropped.
+/// The smallest budget at which it still differs; then lines dropped, then words cleared.
 pub fn shrunk(case: &Case) -> Case {
     let mut small = case.clone();
     shrink_budget(&mut small);
@@ -61,7 +61,7 @@ fn text(case: &mut Case) -> Option<&mut Vec<u8>> {
     }
 }
 
-/// Drops lines, then bytes from the end of each line.
+/// Drops lines, the first aside, while the case still differs.
 fn shrink_text(case: &mut Case) {
     let lines: Vec<Vec<u8>> = match text(case) {
         Some(t) => t.split_inclusive(|b| *b == b'\n').map(|line| line.to_vec()).collect(),

@@ -18,18 +18,23 @@ use Rattle.image.specs.Scan.{Scan, unfitLine, scanOf}
 use Rattle.image.proofs.ByLines.{by-lines}
 use Rattle.image.proofs.Sound.{reached-acceptable}
 
+-- n is the first unfit line, or 0
 module _ (s : Scan) (n : ℕ) (u : n ≡ unfitLine (s .scanner)) where
+  abbrev checked : List ℕ
+  checked = checkedListing (checkMemory (s .memory)) (s .memory)
+
   abbrev listed : ℕ → List ℕ
-  listed k = choose k (refusedLine k) (checkedListing (checkMemory (s .memory)) (s .memory))
+  listed k = choose k (refusedLine k) checked
 
   pub listed-refused : (n ≡ 0 → ⊥) → scanListing s ≡ refusedLine n
   unfolding scanListing
-  listed-refused h = ap listed (sym u) ∙ ap (λ (t : Bool). pick t (refusedLine n) (checkedListing (checkMemory (s .memory)) (s .memory))) (ap not (ne-eqb n 0 h))
+  listed-refused h = ap listed (sym u) ∙ ap (λ (t : Bool). pick t (refusedLine n) checked) (ap not (ne-eqb n 0 h))
 
   pub listed-checked : n ≡ 0 → (v : Verdict) → checkMemory (s .memory) ≡ v → scanListing s ≡ checkedListing v (s .memory)
   unfolding scanListing
   listed-checked h v e = ap listed (sym u ∙ h) ∙ ap (λ (w : Verdict). checkedListing w (s .memory)) e
 
+-- after a text: refused by its first unfit line, else the run of the memory that it loads
 pub scan-listing : (text : List ℕ) → Countable text → scanListing (scanOf text) ≡ dayListing text
 unfolding dayListing
 scan-listing text h =

@@ -18,7 +18,7 @@ use Rattle.pdp8.proofs.Keeps.{step-good}
 use Rattle.last_lines.specs.LastLines.{endLine}
 use Rattle.day_listing.specs.Listing.{budget, ready, heading, stepLine, stepLines, runListing}
 use Rattle.page.specs.Written.{Written}
-use Rattle.day_listing.specs.Stepped.{Stepped}
+use Rattle.day_listing.specs.Stepped.{stepLineBytes, Stepped}
 use Rattle.page.proofs.Writing.{written-none, written-then}
 use Rattle.day_listing.proofs.Sizes.{step-line-size}
 
@@ -26,7 +26,8 @@ use Rattle.day_listing.proofs.Sizes.{step-line-size}
 abbrev pub rest : ℕ → ℕ → State → List ℕ
 rest left done s = stepLines left done s ++ endLine (runFrom left done s .steps) (runFrom left done s .reason)
 
-pub rest-on : (left done : ℕ) (s t : State) → 0 < left → on (s .run) ≡ true → t ≡ step s
+-- a step is left, and RUN is 1: its line, and the lines after it
+rest-on : (left done : ℕ) (s t : State) → 0 < left → on (s .run) ≡ true → t ≡ step s
     → rest left done s ≡ stepLine (done + 1) (s .pc) (word (s .pc) s) (t .lac) (t .run) ++ rest (left - 1) (done + 1) t
 unfolding stepLines runFrom
 rest-on zero done s t h e q = absurd (not-suc-le-zero h)
@@ -34,15 +35,17 @@ rest-on (suc left) done s t h e q =
     rw (sub-one (suc left), add-one done, q, e, stepLines, runFrom)
     (append-assoc (stepLine (suc done) (s .pc) (word (s .pc) s) (step s .lac) (step s .run)) _ _)
 
-pub rest-halted : (left done : ℕ) (s : State) → on (s .run) ≡ false → rest left done s ≡ endLine done (choose (s .run) Spent Halted)
+-- no step more, since RUN is 0 or the budget is done: the last line
+rest-halted : (left done : ℕ) (s : State) → on (s .run) ≡ false → rest left done s ≡ endLine done (choose (s .run) Spent Halted)
 unfolding stepLines runFrom
 rest-halted zero done s e = refl
 rest-halted (suc left) done s e = rw (e, stepLines, runFrom) (rw e)
 
-pub rest-spent : (done : ℕ) (s : State) → rest 0 done s ≡ endLine done (choose (s .run) Spent Halted)
+rest-spent : (done : ℕ) (s : State) → rest 0 done s ≡ endLine done (choose (s .run) Spent Halted)
 unfolding stepLines runFrom
 rest-spent done s = refl
 
+-- before the first step all lines but the heading are left
 pub run-listing : (memory : List ℕ) → runListing memory ≡ heading ++ rest budget 0 (ready memory)
 unfolding runListing run
 run-listing memory = append-assoc heading (stepLines budget 0 (ready memory)) _
@@ -55,7 +58,7 @@ pub record Listed (s₀ : State) (page₀ : List ℕ) (at₀ : ℕ) (s : State) 
   pub whole : rest budget 0 s₀ ≡ text ++ rest (budget - done) done s
   pub good : Good s
   pub count : done ≤ budget
-  pub room : at ≤ at₀ + 21 * done
+  pub room : at ≤ at₀ + stepLineBytes * done
 
 pub listed-none : (s : State) (page : List ℕ) (at : ℕ) → Good s → Listed s page at s page at 0
 listed-none s page at g =
@@ -63,7 +66,8 @@ listed-none s page at g =
 
 module _ {s₀ s : State} {page₀ page after : List ℕ} {at₀ at done end : ℕ} (l : Listed s₀ page₀ at₀ s page at done) where
   -- one step more
-  pub listed-more : {t : State} {next : ℕ} → done < budget → on (s .run) ≡ true → Stepped done next s t page at after end → Listed s₀ page₀ at₀ t after end next
+  pub listed-more : {t : State} {next : ℕ} → done < budget → on (s .run) ≡ true → Stepped done next s t page at after end
+      → Listed s₀ page₀ at₀ t after end next
   listed-more {t} h e w =
       let line = stepLine (done + 1) (s .pc) (word (s .pc) s) (t .lac) (t .run) in
       let left : budget - done - 1 ≡ budget - (done + 1) = omega arith in

@@ -6,6 +6,7 @@ use native.Mathlib.Omega.{arith}
 use lib.ListN.{length, length-append}
 use Rattle.page.specs.Text.{octal, decimal}
 use Rattle.day_listing.specs.Listing.{stepLine}
+use Rattle.day_listing.specs.Stepped.{stepLineBytes}
 use Rattle.page.proofs.Numbers.{octal-length, decimal-length}
 
 -- the numbers of a step's line
@@ -20,6 +21,6 @@ pub field-sizes : (n pc i lac run : ℕ) → n < 100 → Sizes n pc i lac run
 field-sizes n pc i lac run h =
     record { count = decimal-length 1 n h; address = octal-length 4 pc; word = octal-length 4 i; accumulator = octal-length 5 lac; flag = octal-length 1 run }
 
-pub step-line-size : (n pc i lac run : ℕ) → n < 100 → length (stepLine n pc i lac run) ≤ 21
+pub step-line-size : (n pc i lac run : ℕ) → n < 100 → length (stepLine n pc i lac run) ≤ stepLineBytes
 unfolding stepLine
 step-line-size n pc i lac run h = let sizes = field-sizes n pc i lac run h in simp length-append (omega arith)

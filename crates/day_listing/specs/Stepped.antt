@@ -8,7 +8,11 @@ use Rattle.pdp8.specs.Step.{step}
 use Rattle.page.specs.Written.{Written}
 use Rattle.day_listing.specs.Listing.{stepLine}
 
--- the bytes of a page: the longest listing has 368, as a heading, 16 lines of at most 21 bytes and the last line
+-- the most bytes that a step's line has: 21 where its number has two digits
+abbrev pub stepLineBytes : ℕ
+stepLineBytes = 21
+
+-- the bytes of a page: the longest listing has 359, a heading of 18, nine lines of 20, seven of 21 and the last line of 14
 abbrev pub pageBytes : ℕ
 pageBytes = 512
 

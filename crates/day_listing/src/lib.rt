@@ -9,7 +9,7 @@ ghost use Rattle.day_listing.specs.Listing.{dayListing, scanListing};
 ghost use Rattle.image.specs.Scan.{held};
 ghost use Rattle.page.specs.Written.{Page};
 
-// The bytes of a page that a listing is written to. The longest has 368.
+// The bytes of a page that a listing is written to. The longest has 359.
 pub const PAGE_BYTES: usize = 512;
 
 // Writes the listing of a text that has been scanned to the start of a page, and answers how many bytes it has: none where the

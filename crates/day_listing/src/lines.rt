@@ -7,7 +7,7 @@ use page::put_field;
 ghost use Prim.Native.Nat.{_+_, _<_, _≤_};
 ghost use Rattle.day_listing.specs.Listing.{stepLine};
 ghost use Rattle.page.specs.Written.{Written};
-ghost use Rattle.day_listing.specs.Stepped.{pageBytes};
+ghost use Rattle.day_listing.specs.Stepped.{stepLineBytes, pageBytes};
 
 // The step's number, its instruction's address and word, LAC and RUN after it.
 pub(crate) fn put_step_line(
@@ -19,7 +19,7 @@ pub(crate) fn put_step_line(
     lac: u64,
     run: u64,
 ) -> usize
-    requires { ⌜ at + 21 ≤ pageBytes ⌝ ∗ ⌜ n < 100 ⌝ }
+    requires { ⌜ at + stepLineBytes ≤ pageBytes ⌝ ∗ ⌜ n < 100 ⌝ }
     ensures { λ r. ⌜ Written (stepLine n pc i lac run) (now (page .entry)) at (now (page .exit)) r ⌝ }
 {
     let count = put_decimal(page, at, n);

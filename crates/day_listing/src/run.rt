@@ -10,7 +10,7 @@ ghost use Rattle.state.specs.Acceptable.{Acceptable};
 ghost use Rattle.machine.specs.State.{at as state, Good};
 ghost use Rattle.day_listing.specs.Listing.{runListing};
 ghost use Rattle.page.specs.Written.{Page};
-ghost use Rattle.day_listing.specs.Stepped.{pageBytes, Stepped};
+ghost use Rattle.day_listing.specs.Stepped.{stepLineBytes, pageBytes, Stepped};
 
 const BUDGET: u64 = 16;
 
@@ -23,8 +23,9 @@ struct Progress {
 
 // One step more and its line.
 fn put_step(memory: &mut [u16; MEMORY_WORDS], page: &mut [u8; PAGE_BYTES], w: Progress) -> Progress
-    requires { ⌜ Good (state (w .processor) (now memory)) ⌝ ∗ ⌜ w .at + 21 ≤ pageBytes ⌝ ∗ ⌜ w .done < 99 ⌝ }
-    ensures { λ r. ⌜ Stepped (w .done) (r .done) (state (w .processor) (now (memory .entry))) (state (r .processor) (now (memory .exit))) (now (page .entry)) (w .at) (now (page .exit)) (r .at) ⌝ }
+    requires { ⌜ Good (state (w .processor) (now memory)) ⌝ ∗ ⌜ w .at + stepLineBytes ≤ pageBytes ⌝ ∗ ⌜ w .done < 99 ⌝ }
+    ensures { λ r. ⌜ Stepped (w .done) (r .done) (state (w .processor) (now (memory .entry))) (state (r .processor) (now (memory .exit)))
+        (now (page .entry)) (w .at) (now (page .exit)) (r .at) ⌝ }
 {
     let p = w.processor;
     let i = machine::memory::load(memory, p.pc);

@@ -2,19 +2,19 @@
 -- Assumes nothing.
 use mathlib.Core.Path.{_≡_}
 use mathlib.Core.List.{[], _∷_, _++_, append-assoc}
-use Prim.Native.Nat.{ℕ, _≤_, _<_}
+use Prim.Native.Nat.{ℕ, _+_, _≤_}
 use native.Mathlib.Omega.{arith}
 use lib.ListN.{length, length-append}
 use Rattle.state.specs.declared.Reason.{Reason}
 use Rattle.state.specs.declared.Reason.the-variants.{Halted, Spent}
 use Rattle.page.specs.Text.{ascii, tab, lineFeed, decimal}
-use Rattle.page.proofs.Numbers.{decimal-length}
 use Rattle.last_lines.specs.LastLines.{reasonWord, endLine}
 
 pub end-line : (steps : ℕ) (why : Reason) → endLine steps why ≡ ascii "end\t" ++ decimal steps ++ (tab ∷ reasonWord why ++ lineFeed ∷ [])
 unfolding endLine
 end-line steps why = append-assoc (ascii "end\t" ++ decimal steps) (tab ∷ reasonWord why) (lineFeed ∷ [])
 
-pub end-line-size : (steps : ℕ) (why : Reason) → steps < 100 → length (endLine steps why) ≤ 14
-end-line-size steps Halted h = let short = decimal-length 1 steps h in rw (end-line steps Halted) (simp length-append (omega arith))
-end-line-size steps Spent h = let short = decimal-length 1 steps h in rw (end-line steps Spent) (simp length-append (omega arith))
+-- beside the steps' digits at most 12 bytes: `halted` is the longer word
+pub end-size : (steps : ℕ) (why : Reason) → length (endLine steps why) ≤ 12 + length (decimal steps)
+end-size steps Halted = rw (end-line steps Halted) (simp length-append (omega arith))
+end-size steps Spent = rw (end-line steps Spent) (simp length-append (omega arith))

@@ -11,7 +11,7 @@ ghost use Rattle.page.specs.Text.{decimal};
 ghost use Rattle.page.specs.Written.{Written, Page};
 ghost use Rattle.last_lines.specs.LastLines.{endLine, refusedLine};
 
-// The last line of a run: it halted where RUN is 0, else its budget is spent.
+// The last line of a run: it halted where RUN is 0, else its budget is spent. Beside the digits it has at most 12 bytes.
 pub fn put_end_line(page: &mut [u8], at: usize, steps: u64, run: u64) -> usize
     requires { ⌜ at + 12 + length (decimal steps) ≤ length (now page) ⌝ }
     ensures { λ r. ⌜ Written (endLine steps (choose run Spent Halted)) (now (page .entry)) at (now (page .exit)) r ⌝ }
@@ -25,7 +25,7 @@ pub fn put_end_line(page: &mut [u8], at: usize, steps: u64, run: u64) -> usize
     }
 }
 
-// The one line of a refused text.
+// The one line of a refused text: a number of 64 bits has at most 20 digits.
 pub fn put_refused_line(page: &mut [u8], n: u64) -> usize
     requires { ⌜ 29 ≤ length (now page) ⌝ }
     ensures { λ r. ⌜ Page (refusedLine n) (now (page .entry)) (now (page .exit)) r ⌝ }

@@ -36,7 +36,8 @@ returns-2 : tie.Need-returns-2
 returns-2 c = let check = c .before .before in
     let test = check .before .before in
     let a = test .before .before .args in
-    rw (listed-checked (held (a .s) (a .memory .now)) _ (test .before .unfit-line .ensures) (test .if1 .left) _ (sym (check .check-memory .ensures) ∙ c .enum-told .given .1))
+    let verdict = sym (check .check-memory .ensures) ∙ c .enum-told .given .1 in
+    rw (listed-checked (held (a .s) (a .memory .now)) _ (test .before .unfit-line .ensures) (test .if1 .left) _ verdict)
     (record { page = refl; whole = refl; within = omega arith })
 
 returns-3 : tie.Need-returns-3
@@ -44,7 +45,8 @@ returns-3 c = let told = c .before .before .before .before in
     let check = told .before .before in
     let test = check .before .before in
     let a = test .before .before .args in
-    rw (listed-checked (held (a .s) (a .memory .now)) _ (test .before .unfit-line .ensures) (test .if1 .left) _ (sym (check .check-memory .ensures) ∙ told .enum-told2 .given .1))
+    let verdict = sym (check .check-memory .ensures) ∙ told .enum-told2 .given .1 in
+    rw (listed-checked (held (a .s) (a .memory .now)) _ (test .before .unfit-line .ensures) (test .if1 .left) _ verdict)
     (c .put-run .ensures)
 
 pub listing-spec : {M : Type 1} → statement M

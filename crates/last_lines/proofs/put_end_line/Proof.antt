@@ -34,8 +34,9 @@ returns : tie.Need-returns
 returns c = let reason = c .before .before in
     let test = reason .before .before .before in
     let number = test .before .before .before in
+    let title = number .before .before .before .before in
     rw (end-line, eq-eqb _ _ (test .if1 .taken))
-    (written-then _ _ (written-then _ _ (number .before .before .before .before .put-text .ensures) (number .put-decimal .ensures)) (reason .put-text2 .ensures))
+    (written-then _ _ (written-then _ _ (title .put-text .ensures) (number .put-decimal .ensures)) (reason .put-text2 .ensures))
 
 same-length-2 : tie.Need-same-length-2
 same-length-2 c = search needs
@@ -44,8 +45,9 @@ returns-2 : tie.Need-returns-2
 returns-2 c = let reason = c .before .before in
     let test = reason .before .before .before in
     let number = test .before .before .before in
+    let title = number .before .before .before .before in
     rw (end-line, ne-eqb _ _ (test .if1 .left))
-    (written-then _ _ (written-then _ _ (number .before .before .before .before .put-text .ensures) (number .put-decimal .ensures)) (reason .put-text3 .ensures))
+    (written-then _ _ (written-then _ _ (title .put-text .ensures) (number .put-decimal .ensures)) (reason .put-text3 .ensures))
 
 pub put-end-line-spec : {M : Type 1} → statement M
 put-end-line-spec =

@@ -31,7 +31,8 @@ returns c = let feed = c .before .before in
     let number = feed .before .before .before .before in
     let title = number .before .before .before .before in
     let start = title .before .before .before .before in
-    written-page _ _ refl (omega (arith, feed .put-byte .ensures .place, number .put-decimal .ensures .place, decimal-length 19 (start .args .n) (search needs)))
+    let digits = decimal-length 19 (start .args .n) (search needs) in
+    written-page _ _ refl (omega (arith, feed .put-byte .ensures .place, number .put-decimal .ensures .place, digits))
     (written-then _ _ (written-then _ _ (title .put-text .ensures) (number .put-decimal .ensures)) (feed .put-byte .ensures))
 
 pub put-refused-line-spec : {M : Type 1} → statement M

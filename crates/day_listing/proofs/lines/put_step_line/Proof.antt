@@ -2,39 +2,31 @@
 use native.Mathlib.Omega.{arith}
 use Rattle.day_listing.specs.Listing.{stepLine}
 use Rattle.page.proofs.Writing.{written-then}
-use Rattle.day_listing.proofs.Sizes.{field-sizes}
+use Rattle.day_listing.proofs.Sizes.{Sizes, field-sizes}
 use Rattle.day_listing.proofs.lines.put_step_line.Statement.{statement}
 use Rattle.day_listing.proofs.lines.put_step_line.Tie as tie
 
+-- the digits of each field
+sizes : (start : tie.Start) → Sizes (start .args .n) (start .args .pc) (start .args .i) (start .args .lac) (start .args .run)
+sizes start = field-sizes _ _ _ _ _ (start .pre .1)
+
 put-decimal-requires : tie.Need-put-decimal-requires
-put-decimal-requires c κs = let start = c .before in
-    let a = start .args in
-    omega (arith, field-sizes (a .n) (a .pc) (a .i) (a .lac) (a .run) (start .pre .1))
+put-decimal-requires c κs = omega (arith, sizes (c .before))
 
 put-field-requires : tie.Need-put-field-requires
-put-field-requires c κs = let start = c .before .before .before in
-    let a = start .args in
-    omega (arith, field-sizes (a .n) (a .pc) (a .i) (a .lac) (a .run) (start .pre .1))
+put-field-requires c κs = omega (arith, sizes (c .before .before .before))
 
 put-field-requires-2 : tie.Need-put-field-requires-2
-put-field-requires-2 c κs = let start = c .before .before .before .before .before in
-    let a = start .args in
-    omega (arith, field-sizes (a .n) (a .pc) (a .i) (a .lac) (a .run) (start .pre .1))
+put-field-requires-2 c κs = omega (arith, sizes (c .before .before .before .before .before))
 
 put-field-requires-3 : tie.Need-put-field-requires-3
-put-field-requires-3 c κs = let start = c .before .before .before .before .before .before .before in
-    let a = start .args in
-    omega (arith, field-sizes (a .n) (a .pc) (a .i) (a .lac) (a .run) (start .pre .1))
+put-field-requires-3 c κs = omega (arith, sizes (c .before .before .before .before .before .before .before))
 
 put-field-requires-4 : tie.Need-put-field-requires-4
-put-field-requires-4 c κs = let start = c .before .before .before .before .before .before .before .before .before in
-    let a = start .args in
-    omega (arith, field-sizes (a .n) (a .pc) (a .i) (a .lac) (a .run) (start .pre .1))
+put-field-requires-4 c κs = omega (arith, sizes (c .before .before .before .before .before .before .before .before .before))
 
 put-byte-requires : tie.Need-put-byte-requires
-put-byte-requires c κs = let start = c .before .before .before .before .before .before .before .before .before .before .before in
-    let a = start .args in
-    omega (arith, field-sizes (a .n) (a .pc) (a .i) (a .lac) (a .run) (start .pre .1))
+put-byte-requires c κs = omega (arith, sizes (c .before .before .before .before .before .before .before .before .before .before .before))
 
 returns : tie.Need-returns
 unfolding stepLine

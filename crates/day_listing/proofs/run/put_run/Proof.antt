@@ -13,13 +13,14 @@ use Rattle.day_listing.specs.Listing.{budget}
 use Rattle.day_listing.specs.Stepped.{pageBytes}
 use Rattle.page.proofs.Writing.{written-then, written-page}
 use Rattle.page.proofs.Numbers.{decimal-length}
-use Rattle.last_lines.proofs.Sizes.{end-line-size}
+use Rattle.last_lines.proofs.Sizes.{end-size}
 use Rattle.day_listing.proofs.Rest.{Listed, listed-none, listed-more, listed-all, run-listing}
 use Rattle.day_listing.proofs.run.put_run.Statement.{statement}
 use Rattle.day_listing.proofs.run.put_run.Tie as tie
 
 abbrev Inv-loop : tie.InvT-loop
-Inv-loop memory₀ page₀ start w₀ memory page w = Listed (state (w₀ .processor) memory₀) page₀ (w₀ .at) (state (w .processor) memory) page (w .at) (w .done)
+Inv-loop memory₀ page₀ start w₀ memory page w =
+    Listed (state (w₀ .processor) memory₀) page₀ (w₀ .at) (state (w .processor) memory) page (w .at) (w .done)
 
 abbrev μ-loop : tie.MeasureT-loop
 μ-loop memory₀ page₀ start w₀ memory page w = budget - w .done
@@ -68,9 +69,10 @@ returns c = let head = c .before .before .before .before in
     let at = head .loop .inv in
     let w = head .loop .w in
     let how = ⊎-elim (λ q. inl (q .left)) (λ q. inr (q .2 .taken)) (c .before .before .if1 .came) in
-    let size = end-line-size (w .done) (choose (w .processor .run) Spent Halted) (omega arith) in
+    let size = end-size (w .done) (choose (w .processor .run) Spent Halted) in
+    let short = decimal-length 1 (w .done) (omega (arith, at .count)) in
     rw run-listing
-    (written-page pageBytes _ (search needs) (omega (arith, c .put-end-line .ensures .place, at .room, at .count, title .place, size))
+    (written-page pageBytes _ (search needs) (omega (arith, c .put-end-line .ensures .place, at .room, at .count, title .place, size, short))
     (written-then _ _ title (listed-all at how (c .put-end-line .ensures))))
 
 pub put-run-spec : {M : Type 1} → statement M

@@ -2,22 +2,21 @@
 -- Assumes nothing.
 use mathlib.Core.Path.{_≡_, refl, sym, ap, _∙_, subst}
 use mathlib.Core.List.{List, [], _++_}
-use Prim.Native.Nat.{ℕ, zero, suc, _+_, _^_, _≤_, _<_}
+use Prim.Native.Nat.{ℕ, zero, suc, _+_, _≤_}
 use native.Mathlib.Omega.{arith}
-use lib.ListN.{length, getD, take, drop, replicate, length-append}
+use lib.Dec.{lit<}
+use lib.ListN.{length, take, drop, length-append}
 use lib.Seq.{take-append-seam}
-use lib.Pow.{pow-pos}
 use Rattle.word.specs.Choice.{on, choose}
 use Rattle.state.specs.Limits.{rowPlaces}
 use Rattle.state.specs.Refusals.{orElse}
 use Rattle.state.specs.Checks.{checkMemory, checkRegisters, checkBudget, checkState}
-use Rattle.state.specs.Acceptable.{Fitting}
 use Rattle.state.specs.declared.Reason.{Reason}
 use Rattle.state.specs.declared.Reason.the-variants.{Halted, Spent}
 use Rattle.state.specs.declared.Refusal.{Refusal}
 use Rattle.state.specs.declared.Verdict.{Verdict}
 use Rattle.state.specs.declared.Verdict.the-variants.{Fit, Unfit}
-use Rattle.state.proofs.Accepted.{memory-acceptable, registers-fitting, budget-within, both-fit}
+use Rattle.state.proofs.Accepted.{budget-within, both-fit}
 use Rattle.state.proofs.Numbers.{numbered}
 use Rattle.machine.specs.declared.Machine.{Machine}
 use Rattle.machine.specs.State.{State, widths, values, start, registers}
@@ -26,18 +25,19 @@ use Rattle.pdp8.specs.Run.{reasonOf, runFrom, run}
 use Rattle.pdp8.proofs.Runs.{run-step, run-halted}
 use Rattle.emulator.specs.Emulate as emulator
 use Rattle.emulator.specs.Emulate.{emulate}
+use Rattle.emulator.proofs.Starts.{checked-good}
 use Rattle.emulator.specs.declared.Answer.{Answer}
 use Rattle.emulator.specs.declared.Answer.the-variants as emulated
 use Rattle.evaluator.specs.Evaluate as evaluator
-use Rattle.evaluator.specs.Evaluate.{evaluate, widthsOf}
+use Rattle.evaluator.specs.Evaluate.{evaluate}
 use Rattle.evaluator.specs.declared.Outcome.{Outcome}
 use Rattle.evaluator.specs.declared.Outcome.the-variants.{Ran, Unread, Refused}
 use Rattle.last_lines.specs.LastLines.{endLine}
 use Rattle.entry.specs.Lines.{machineRegisters}
 use Rattle.characters.proofs.Tests.{by-test}
 use Rattle.pdp8_rows.specs.Text.{shippedText}
-use Rattle.pdp8_rows.specs.Shipped.{shipped}
-use Rattle.shipped.specs.Claim.{Start, Claim, cyclesOf}
+use Rattle.shipped.specs.Claim.{Claim, cyclesOf}
+use Rattle.shipped.proofs.Starts.{every-start}
 use Rattle.shipped.proofs.Agree.{runs-agree}
 use Rattle.run_lines.specs.Registers.{registerLines}
 use Rattle.run_lines.specs.Rows.{rowLines}
@@ -52,73 +52,51 @@ reason-from (suc left) done s =
     (λ e. rw (run-step left done s e) (reason-from left (suc done) (step s)))
     (λ e. rw (run-halted (suc left) done s e))
 
--- the machine registers fit in the evaluator's places too
-padded : (m : Machine) → Fitting widths (values m) → (k : ℕ) → getD (placesOf m) k 0 < 2 ^ getD (widthsOf shipped) k 0
-padded m f zero = f .narrow 0
-padded m f (suc zero) = f .narrow 1
-padded m f (suc (suc zero)) = f .narrow 2
-padded m f (suc (suc (suc zero))) = f .narrow 3
-padded m f (suc (suc (suc (suc zero)))) = f .narrow 4
-padded m f (suc (suc (suc (suc (suc zero))))) = f .narrow 5
-padded m f (suc (suc (suc (suc (suc (suc k)))))) = rw (zeros 10 k) (pow-pos (getD (widthsOf shipped) (suc (suc (suc (suc (suc (suc k)))))) 0))
-  where
-    zeros : (n i : ℕ) → getD {A = ℕ} (replicate n 0) i 0 ≡ 0
-    zeros zero i = refl
-    zeros (suc n) zero = refl
-    zeros (suc n) (suc i) = zeros n i
+-- the bytes that tell of a run: the registers after it, its steps, the rows of its last cycle
+abbrev text : Machine → ℕ → List ℕ → List ℕ
+text after steps rows = endLine steps (choose (after .run) Spent Halted) ++ registerLines machineRegisters (values after) ++ rowLines rows
 
--- what a run comes to on the page, by what the engines answer
+-- what is answered after a run, in the terms of the engines' answers
 pub record Told (m : Machine) (memory : List ℕ) (budget : ℕ) (after : Machine) (steps listed : ℕ) (rows : List ℕ) : Type 0 where
   pub few : listed ≤ length rows
-  pub is : answered m memory budget
-      ≡ endLine steps (choose (after .run) Spent Halted) ++ registerLines machineRegisters (values after) ++ rowLines (take listed rows)
+  pub is : answered m memory budget ≡ text after steps (take listed rows)
 
 module _ (m : Machine) (memory : List ℕ) (budget : ℕ) (list : List ℕ) (room : rowPlaces ≤ length list) where
-  start-of : checkState widths (values m) memory budget ≡ Fit → Start m (placesOf m) memory budget list
-  start-of e =
+  -- a state that the check finds fit is a start of the claim, with 0 in the working registers
+  claim-of : checkState widths (values m) memory budget ≡ Fit → Claim m (placesOf m) memory budget list
+  claim-of e =
       let first = both-fit (checkMemory memory) (orElse (checkRegisters widths (values m)) (checkBudget budget)) e in
       let second = both-fit (checkRegisters widths (values m)) (checkBudget budget) (first .1) in
-      record {
-        places = refl;
-        machine = refl;
-        fitting = record { narrow = padded m (registers-fitting widths (values m) (second .0)) };
-        acceptable = memory-acceptable memory (first .0);
-        within = budget-within budget (second .1);
-        roomy = room;
-      }
-
-  claim-of : checkState widths (values m) memory budget ≡ Fit → Claim m (placesOf m) memory budget list
-  claim-of e = runs-agree m (placesOf m) memory budget list (start-of e)
+      runs-agree m (placesOf m) memory budget list
+      (every-start m memory 0 0 0 0 budget list (checked-good m memory budget e) (lit< tt) (lit< tt) (lit< tt) (lit< tt) (budget-within budget (second .1)) room)
 
   checked : (v : Verdict) → checkState widths (values m) memory budget ≡ v → answered m memory budget ≡ checkedBy v m memory budget
   unfolding answered
   checked v e = ap (λ (u : Verdict). checkedBy u m memory budget) e
 
-  -- the emulator refuses
-  pub refused-is : (why : Refusal) (after : List ℕ) → emulator.refused why m after ≡ emulate m memory budget → answered m memory budget ≡ []
+  -- where the emulator refuses, nothing is written
+  refused-is : (why : Refusal) (after : List ℕ) → emulator.refused why m after ≡ emulate m memory budget → answered m memory budget ≡ []
   refused-is why after p = go (checkState widths (values m) memory budget) refl
     where
       go : (v : Verdict) → checkState widths (values m) memory budget ≡ v → answered m memory budget ≡ []
       go Fit e = absurd (numbered why (ap (λ (r : emulator.Report). r .number) (p ∙ claim-of e .emulated)))
       go (Unfit w) e = checked (Unfit w) e
 
-  -- the emulator runs
+  -- the emulator refuses what the check finds unfit
   unfit-refuses : (w : Refusal) → checkState widths (values m) memory budget ≡ Unfit w → emulate m memory budget ≡ emulator.refused w m memory
   unfolding emulate
   unfit-refuses w e = rw (e, emulate)
 
-  -- what is explained, in the terms of the answers
-  abbrev text : ℕ → Machine → List ℕ → List ℕ
-  text n a rows = endLine n (choose (a .run) Spent Halted) ++ registerLines machineRegisters (values a) ++ rowLines rows
-
+  -- the explanation of a start by its two runs
   explained-is : explained m memory budget
-      ≡ text (run budget (start m memory) .steps) (registers (run budget (start m memory) .state)) (cyclesOf (placesOf m) memory budget .acted)
+      ≡ text (registers (run budget (start m memory) .state)) (run budget (start m memory) .steps) (cyclesOf (placesOf m) memory budget .acted)
   unfolding explained told run
   explained-is =
       let r = runFrom budget 0 (start m memory) in
       ap (λ (why : Reason). endLine (r .steps) why ++ registerLines machineRegisters (values (registers (r .state))) ++ rowLines (cyclesOf (placesOf m) memory budget .acted))
       (reason-from budget 0 (start m memory))
 
+  -- the answers of both engines, where the check finds the state fit
   fit-told : (after : Machine) (why : Reason) (steps : ℕ) (mem : List ℕ) (b : evaluator.Report) → checkState widths (values m) memory budget ≡ Fit
       → emulator.ran after why steps mem ≡ emulate m memory budget → b ≡ evaluate shippedText (placesOf m) memory budget list
       → Told m memory budget after steps (b .listed) (b .list)
@@ -128,18 +106,19 @@ module _ (m : Machine) (memory : List ℕ) (budget : ℕ) (list : List ℕ) (roo
       let acted = cyclesOf (placesOf m) memory budget .acted in
       let same : emulator.ran after why steps mem ≡ emulator.finished r = p ∙ claim .emulated in
       let listed : b ≡ evaluator.finished (cyclesOf (placesOf m) memory budget) list = q ∙ claim .evaluated in
-      let rows : take (b .listed) (b .list) ≡ acted = ap (λ (x : evaluator.Report). take (x .listed) (x .list)) listed ∙ take-append-seam acted (drop (length acted) list) in
-      let size : length (b .list) ≡ length acted + length (drop (length acted) list) = ap (λ (x : evaluator.Report). length (x .list)) listed ∙ length-append acted (drop (length acted) list) in
+      let rows : take (b .listed) (b .list) ≡ acted =
+      ap (λ (x : evaluator.Report). take (x .listed) (x .list)) listed ∙ take-append-seam acted (drop (length acted) list) in
+      let size : length (b .list) ≡ length acted + length (drop (length acted) list) =
+      ap (λ (x : evaluator.Report). length (x .list)) listed ∙ length-append acted (drop (length acted) list) in
       let count : b .listed ≡ length acted = ap (λ (x : evaluator.Report). x .listed) listed in
       record {
         few = omega arith;
         is = checked Fit e ∙ explained-is
-            ∙ sym (ap (λ (n : ℕ). text n after (take (b .listed) (b .list))) (ap (λ (x : emulator.Report). x .steps) same)
-            ∙ ap (λ (a : Machine). text (r .steps) a (take (b .listed) (b .list))) (ap (λ (x : emulator.Report). x .machine) same)
-            ∙ ap (text (r .steps) (registers (r .state))) rows);
+            ∙ sym (ap (λ (x : emulator.Report). text (x .machine) (x .steps) (take (b .listed) (b .list))) same ∙ ap (text (registers (r .state)) (r .steps)) rows);
       }
 
-  pub ran-is : (after : Machine) (why : Reason) (steps : ℕ) (mem : List ℕ) (b : evaluator.Report)
+  -- where the emulator ran, the check found the state fit
+  ran-is : (after : Machine) (why : Reason) (steps : ℕ) (mem : List ℕ) (b : evaluator.Report)
       → emulator.ran after why steps mem ≡ emulate m memory budget → b ≡ evaluate shippedText (placesOf m) memory budget list
       → Told m memory budget after steps (b .listed) (b .list)
   ran-is after why steps mem b p q = go (checkState widths (values m) memory budget) refl
@@ -148,7 +127,7 @@ module _ (m : Machine) (memory : List ℕ) (budget : ℕ) (list : List ℕ) (roo
       go Fit e = fit-told after why steps mem b e p q
       go (Unfit w) e = absurd (numbered w (sym (ap (λ (x : emulator.Report). x .number) (p ∙ unfit-refuses w e))))
 
--- the same in the terms of the evaluator's own answer
+-- what the evaluator's own answer says of its rows
 rows-of : (o : Outcome) (places memory rows : List ℕ) → evaluator.outcomeOf o places memory rows .list ≡ rows
 rows-of (Ran why steps n) places memory rows = refl
 rows-of (Unread fault line) places memory rows = refl
@@ -159,14 +138,15 @@ count-of (Ran why steps n) places memory rows = refl
 count-of (Unread fault line) places memory rows = refl
 count-of (Refused why) places memory rows = refl
 
-pub told-of : (m : Machine) (memory : List ℕ) (budget : ℕ) (after : Machine) (steps : ℕ) (o : Outcome) (places mem rows : List ℕ)
+-- the same in the terms of the evaluator's own answer
+told-of : (m : Machine) (memory : List ℕ) (budget : ℕ) (after : Machine) (steps : ℕ) (o : Outcome) (places mem rows : List ℕ)
     → Told m memory budget after steps (evaluator.outcomeOf o places mem rows .listed) (evaluator.outcomeOf o places mem rows .list)
     → Told m memory budget after steps (listedIn o) rows
 told-of m memory budget after steps o places mem rows t =
     subst (λ (n : ℕ). Told m memory budget after steps n rows) (count-of o places mem rows)
     (subst (Told m memory budget after steps (evaluator.outcomeOf o places mem rows .listed)) (rows-of o places mem rows) t)
 
--- and of the emulator's
+-- and of the emulator's: what `answered` has to know
 module _ (m : Machine) (memory : List ℕ) (budget : ℕ) (list : List ℕ) (room : rowPlaces ≤ length list) (e : Answer) (mem : List ℕ)
     (p : emulator.report m e mem ≡ emulate m memory budget) where
   pub refused-by : (why : Refusal) → e ≡ emulated.Refused why → answered m memory budget ≡ []

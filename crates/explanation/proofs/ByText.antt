@@ -1,18 +1,15 @@
 -- The explanation of what a scanner holds: the ways that it goes, and that after a text it is the text's explanation.
 -- Assumes nothing.
-use mathlib.Core.Path.{_≡_, refl, sym, ap, ap₂, _∙_}
+use mathlib.Core.Path.{_≡_, refl, sym, ap, _∙_}
 use mathlib.Core.Bool.{Bool, not}
 use mathlib.Core.List.{List}
-use Prim.Native.Nat.{ℕ, zero, suc, _^_, _<_}
+use Prim.Native.Nat.{ℕ, zero, suc}
 use native.Mathlib.Omega.{arith}
-use lib.ListN.{getD}
 use borrow.Author.Tests.{ne-eqb}
 use Rattle.word.specs.Choice.{pick, choose}
-use Rattle.state.specs.Refusals.{orElse}
-use Rattle.state.specs.Acceptable.{Fitting}
 use Rattle.state.specs.declared.Verdict.{Verdict}
-use Rattle.state.proofs.Accepted.{acceptable-memory, fitting-registers, within-budget}
-use Rattle.machine.specs.State.{widths, values}
+use Rattle.machine.specs.State.{start, Good}
+use Rattle.emulator.proofs.Starts.{good-checked}
 use Rattle.last_lines.specs.LastLines.{refusedLine}
 use Rattle.image.specs.Pass.{Countable}
 use Rattle.inquiry.specs.Input.{Inquiry}
@@ -21,39 +18,33 @@ use Rattle.inquiry.proofs.ByLines.{by-lines}
 use Rattle.inquiry.proofs.Sound.{Sound, reached-sound}
 use Rattle.explanation.specs.Explanation.{machineOf, explained, answerTo, explanation, checkedBy, answered, scanExplanation}
 
-abbrev asks : Inquiry → List ℕ
-asks q = answered (machineOf (q .registers)) (q .memory) (q .budget)
+abbrev reply : Inquiry → List ℕ
+reply q = answered (machineOf (q .registers)) (q .memory) (q .budget)
 
+-- n is the first unfit line, or 0
 module _ (s : Scan) (n : ℕ) (u : n ≡ unfitLine s) where
   abbrev printed : ℕ → List ℕ
-  printed k = choose k (refusedLine k) (asks (s .inquiry))
+  printed k = choose k (refusedLine k) (reply (s .inquiry))
 
   pub print-refused : (n ≡ 0 → ⊥) → scanExplanation s ≡ refusedLine n
   unfolding scanExplanation
-  print-refused h = ap printed (sym u) ∙ ap (λ (t : Bool). pick t (refusedLine n) (asks (s .inquiry))) (ap not (ne-eqb n 0 h))
+  print-refused h = ap printed (sym u) ∙ ap (λ (t : Bool). pick t (refusedLine n) (reply (s .inquiry))) (ap not (ne-eqb n 0 h))
 
-  pub print-answered : n ≡ 0 → scanExplanation s ≡ asks (s .inquiry)
+  pub print-answered : n ≡ 0 → scanExplanation s ≡ reply (s .inquiry)
   unfolding scanExplanation
   print-answered h = ap printed (sym u ∙ h)
 
--- a sound inquiry is answered
-fitting : (rs : List ℕ) → Fitting widths rs → (k : ℕ) → getD (values (machineOf rs)) k 0 < 2 ^ getD widths k 0
-fitting rs f zero = f .narrow 0
-fitting rs f (suc zero) = f .narrow 1
-fitting rs f (suc (suc zero)) = f .narrow 2
-fitting rs f (suc (suc (suc zero))) = f .narrow 3
-fitting rs f (suc (suc (suc (suc zero)))) = f .narrow 4
-fitting rs f (suc (suc (suc (suc (suc zero))))) = f .narrow 5
-fitting rs f (suc (suc (suc (suc (suc (suc k)))))) = omega arith
-
-sound-answered : (q : Inquiry) → Sound q → asks q ≡ explained (machineOf (q .registers)) (q .memory) (q .budget)
+-- no check turns a sound inquiry down
+sound-answered : (q : Inquiry) → Sound q → reply q ≡ explained (machineOf (q .registers)) (q .memory) (q .budget)
 unfolding answered
 sound-answered q d =
     let m = machineOf (q .registers) in
-    ap (λ (v : Verdict). checkedBy v m (q .memory) (q .budget))
-    (ap₂ orElse (acceptable-memory (q .memory) (d .memory))
-    (ap₂ orElse (fitting-registers widths (values m) (record { narrow = fitting (q .registers) (d .registers) })) (within-budget (q .budget) (d .budget))))
+    let fit = d .registers .narrow in
+    let good : Good (start m (q .memory)) =
+    record { lac = fit 0; pc = fit 1; run = fit 2; enable = fit 3; request = fit 4; switches = fit 5; memory = d .memory } in
+    ap (λ (v : Verdict). checkedBy v m (q .memory) (q .budget)) (good-checked m (q .memory) (q .budget) good (d .budget))
 
+-- after a text: refused by its first unfit line, else answered as its lines ask
 pub scan-explanation : (text : List ℕ) → Countable text → scanExplanation (scanOf text) ≡ explanation text
 unfolding explanation
 scan-explanation text h =

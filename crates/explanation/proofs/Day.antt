@@ -27,6 +27,7 @@ use Rattle.inquiry.specs.Input.{ready, entered, asked, firstUnfit}
 use Rattle.run_lines.specs.Rows.{rowTexts, rowLine, rowLines}
 use Rattle.explanation.specs.Explanation.{machineOf, told, explained, explanation}
 
+-- what no line gives is as for the day listing: the state of each memory, and the budget
 pub starts-as-listed : (memory : List ℕ) → start (machineOf (ready .registers)) memory ≡ listing.ready memory
 unfolding ready
 starts-as-listed memory = refl
@@ -35,6 +36,7 @@ pub budget-as-listed : ready .budget ≡ listing.budget
 unfolding ready
 budget-as-listed = refl
 
+-- (L)
 pub day : explanation (ascii "0200\t7300\n0201\t1204\n0202\t7001\n0203\t7402\n0204\t7777\n")
     ≡ ascii "end\t4\thalted\nLAC\t10000\nPC\t0204\nRUN\t0\nINTERRUPT.ENABLE\t0\nINTERRUPT.REQUEST\t0\nSWITCHES\t0000\n1\tdo\t1\ti\tM[PC]\n2\tdo\t1\tlast.pc\tPC\n3\tdo\t1\tPC\tPC + 1\n5\tgo\ti<0:2> Eql #7\topr\n35\tgo\ti<3>\tgroup.2\n49\tdo\t1\tskip\t0\n54\tgo\t1\tdecided\n62\tdo\ti<10>\tRUN\t0\n63\tgo\t1\tinterrupt\n65\tgo\tNot INTERRUPT.ENABLE\trestart\n"
 unfolding interruptTest firstAddress indexed effective afterIndexing operation reference changed rotated skips group1 group2 operate execute step steps.runFrom steps.run octal decimalIn decimal endLine clear bytes.run runEnd same numberAt lines field hasFields find cycleFrom cycles.runFrom cycles.run shippedText wordEntry registerEntry budgetEntry said entry ready entered asked firstUnfit rowTexts rowLine rowLines told explained explanation

@@ -1,4 +1,3 @@
-pub mod Sizes
 pub mod Answers
 pub mod ByText
 pub mod Day

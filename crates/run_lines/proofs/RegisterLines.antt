@@ -1,17 +1,31 @@
--- A register's line on the page, and how many bytes it has.
+-- How many bytes a register's line has, where it ends on the page, and how many the six lines have.
 -- Assumes nothing.
 use mathlib.Core.Path.{_≡_, ap, _∙_}
 use mathlib.Core.List.{List, [], _∷_, _++_}
 use Prim.Native.Nat.{ℕ, _+_}
 use native.Mathlib.Omega.{arith}
 use lib.ListN.{length, length-append}
+use Rattle.machine.specs.declared.Machine.{Machine}
+use Rattle.machine.specs.State.{values}
 use Rattle.page.specs.Text.{tab, lineFeed, octal}
 use Rattle.page.specs.Written.{Written}
 use Rattle.page.proofs.Numbers.{octal-length}
+use Rattle.entry.specs.Lines.{machineRegisters}
+use Rattle.run_lines.specs.Registers.{registerLines, registerLinesBytes}
 
-pub register-size : (name : List ℕ) (n value : ℕ) → length (name ++ tab ∷ octal n value ++ lineFeed ∷ []) ≡ length name + n + 2
+register-size : (name : List ℕ) (n value : ℕ) → length (name ++ tab ∷ octal n value ++ lineFeed ∷ []) ≡ length name + n + 2
 register-size name n value = let digits = octal-length n value in simp length-append (omega arith)
 
 pub register-end : (name : List ℕ) (n value : ℕ) {before after : List ℕ} {at end : ℕ}
     → Written (name ++ tab ∷ octal n value ++ lineFeed ∷ []) before at after end → end ≡ at + (length name + n + 2)
 register-end name n value {at = at} w = w .place ∙ ap (λ (k : ℕ). at + k) (register-size name n value)
+
+pub registers-size : (m : Machine) → length (registerLines machineRegisters (values m)) ≡ registerLinesBytes
+registers-size m =
+    let lac = octal-length 5 (m .lac) in
+    let pc = octal-length 4 (m .pc) in
+    let run = octal-length 1 (m .run) in
+    let enable = octal-length 1 (m .enable) in
+    let request = octal-length 1 (m .request) in
+    let switches = octal-length 4 (m .switches) in
+    simp length-append (omega arith)

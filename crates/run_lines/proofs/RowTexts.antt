@@ -30,6 +30,7 @@ no-row : (l : Line) (ls : List Line) → isRow (l .bytes) ≡ false → rowTexts
 unfolding rowTexts
 no-row l ls t = rw (t, rowTexts)
 
+-- the first line of what is left is the row that is looked for, or it is passed over
 module _ (rest : List ℕ) (some : 0 < length rest) where
   pub row-found : isRow (before lineFeed rest) ≡ true → getD (rowTexts (lines rest)) 0 [] ≡ before lineFeed rest
   row-found t = rw (first-line rest some, row-first (firstLine rest) (lines (after lineFeed rest)) t)
@@ -48,6 +49,7 @@ row-none (b ∷ rest) left h = absurd (omega arith)
 
 -- ---- the shipped rows
 
+-- whether no text has more than n bytes
 abbrev allWithin : ℕ → List (List ℕ) → Bool
 allWithin n [] = true
 allWithin n (l ∷ ls) = leb (length l) n && allWithin n ls
@@ -57,24 +59,29 @@ each-within n [] t k = omega arith
 each-within n (l ∷ ls) t zero = leb-true (length l) n (and-left (leb (length l) n) (allWithin n ls) t)
 each-within n (l ∷ ls) t (suc k) = each-within n ls (and-right (leb (length l) n) (allWithin n ls) t) k
 
-shipped-within : allWithin 50 (rowTexts (lines shippedText)) ≡ true
+-- the most bytes that a shipped row's text has
+abbrev pub rowTextBytes : ℕ
+rowTextBytes = 50
+
+shipped-within : allWithin rowTextBytes (rowTexts (lines shippedText)) ≡ true
 unfolding run same lines field rowTexts shippedText
 shipped-within = refl
 
-pub row-size : (k : ℕ) → length (rowOf k shippedText) ≤ 50
-row-size k = each-within 50 (rowTexts (lines shippedText)) shipped-within (k - 1)
+pub row-size : (k : ℕ) → length (rowOf k shippedText) ≤ rowTextBytes
+row-size k = each-within rowTextBytes (rowTexts (lines shippedText)) shipped-within (k - 1)
 
+-- with a number below 256, the TAB and the LF
 pub row-line-size : (k : ℕ) → k < 256 → length (rowLine k) ≤ rowLineBytes
 unfolding rowLine
 row-line-size k h = let short = decimal-length 2 k (omega arith) in let text = row-size k in simp length-append (omega arith)
 
 -- ---- lines of rows
 
--- one row more
 rows-snoc : (ks : List ℕ) (k : ℕ) → rowLines (ks ++ k ∷ []) ≡ rowLines ks ++ rowLine k
 unfolding rowLines
 rows-snoc [] k = append-nil (rowLine k)
 rows-snoc (x ∷ ks) k = ap (λ (l : List ℕ). rowLine x ++ l) (rows-snoc ks k) ∙ sym (append-assoc (rowLine x) (rowLines ks) (rowLine k))
 
+-- one row more
 pub rows-more : (rows : List ℕ) (i : ℕ) → i < length rows → rowLines (take (i + 1) rows) ≡ rowLines (take i rows) ++ rowLine (getD rows i 0)
 rows-more rows i h = ap (λ (n : ℕ). rowLines (take n rows)) (add-one i) ∙ ap rowLines (take-suc rows i 0 h) ∙ rows-snoc (take i rows) (getD rows i 0)

@@ -10,6 +10,7 @@ use Rattle.entry.specs.Lines.{digitsOf}
 abbrev pub registerLine : Named → ℕ → List ℕ
 registerLine r value = r .name ++ tab ∷ octal (digitsOf (r .number)) value ++ lineFeed ∷ []
 
+-- a line for each register
 abbrev pub registerLines : List Named → List ℕ → List ℕ
 registerLines [] vs = []
 registerLines (r ∷ rs) [] = []

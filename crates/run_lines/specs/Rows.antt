@@ -23,6 +23,7 @@ rowOf k text = getD (rowTexts (lines text)) (k - 1) []
 unfoldable pub rowLine : ℕ → List ℕ
 rowLine k = decimal k ++ tab ∷ rowOf k shippedText ++ lineFeed ∷ []
 
+-- a line for each row
 unfoldable pub rowLines : List ℕ → List ℕ
 rowLines [] = []
 rowLines (k ∷ ks) = rowLine k ++ rowLines ks

@@ -17,8 +17,9 @@ explanation-requires : tie.Need-explanation-requires
 explanation-requires c κs = search needs
 
 returns : tie.Need-returns
-returns c = let text = c .before .before .before .before .before .before .before .before .args .text .now in
-    let held = c .before .before .before .scanned .ensures .goes-on [] (c .before .before .before .before .before .begin .ensures) in
+returns c = let whole = c .before .before .before in
+    let text = whole .before .before .before .before .before .args .text .now in
+    let held = whole .scanned .ensures .goes-on [] (whole .before .before .begin .ensures) in
     rw (← (ap scanExplanation held ∙ scan-explanation text (search needs))) (c .explanation .ensures)
 
 pub explain-spec : {M : Type 1} → statement M

@@ -12,8 +12,9 @@ put-refused-line-requires : tie.Need-put-refused-line-requires
 put-refused-line-requires c κs = search needs
 
 returns : tie.Need-returns
-returns c = let a = c .before .before .before .before .args in
-    rw (print-refused (held (a .s) (a .memory .now)) _ (c .before .before .before .unfit-line .ensures) (c .before .before .if1 .taken)) (c .put-refused-line .ensures)
+returns c = let found = c .before .before .before in
+    let a = found .before .args in
+    rw (print-refused (held (a .s) (a .memory .now)) _ (found .unfit-line .ensures) (c .before .before .if1 .taken)) (c .put-refused-line .ensures)
 
 machine-of-requires : tie.Need-machine-of-requires
 machine-of-requires c κs = search needs
@@ -22,8 +23,11 @@ answered-requires : tie.Need-answered-requires
 answered-requires c κs = search needs
 
 returns-2 : tie.Need-returns-2
-returns-2 c = let a = c .before .before .before .before .before .before .args in
-    rw (print-answered (held (a .s) (a .memory .now)) _ (c .before .before .before .before .before .unfit-line .ensures) (c .before .before .before .before .if1 .left)) (rw (c .before .before .machine-of .ensures) at (c .answered .ensures))
+returns-2 c = let registers = c .before .before in
+    let test = registers .before .before in
+    let a = test .before .before .args in
+    rw (print-answered (held (a .s) (a .memory .now)) _ (test .before .unfit-line .ensures) (test .if1 .left))
+    (rw (registers .machine-of .ensures) at (c .answered .ensures))
 
 pub explanation-spec : {M : Type 1} → statement M
 explanation-spec =

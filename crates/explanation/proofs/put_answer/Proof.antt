@@ -1,14 +1,24 @@
 -- `explanation::put_answer`: the last line of the run, the registers, the rows; their room is counted.
 use borrow.Author.Needs.{needs}
 use native.Mathlib.Omega.{arith}
+use Prim.Native.Nat.{_≤_}
+use lib.ListN.{length}
 use Rattle.word.specs.Choice.{choose}
 use Rattle.state.specs.declared.Reason.the-variants.{Halted, Spent}
 use Rattle.page.proofs.Numbers.{decimal-length}
 use Rattle.page.proofs.Writing.{written-then, written-page}
+use Rattle.last_lines.specs.LastLines.{endLine}
+use Rattle.last_lines.proofs.Sizes.{end-size}
 use Rattle.run_lines.specs.Registers.{pageBytes}
-use Rattle.explanation.proofs.Sizes.{end-size, registers-size}
+use Rattle.run_lines.proofs.RegisterLines.{registers-size}
 use Rattle.explanation.proofs.put_answer.Statement.{statement}
 use Rattle.explanation.proofs.put_answer.Tie as tie
+
+-- the last line of a run has at most 32 bytes: its steps have 64 bits
+last-line : (start : tie.Start) → length (endLine (start .args .steps) (choose (start .args .m .run) Spent Halted)) ≤ 32
+last-line start = let digits = decimal-length 19 (start .args .steps) (search needs) in
+    let size = end-size (start .args .steps) (choose (start .args .m .run) Spent Halted) in
+    omega arith
 
 cast-put-end-line : tie.Need-cast-put-end-line
 cast-put-end-line c = search needs
@@ -17,24 +27,25 @@ put-end-line-requires : tie.Need-put-end-line-requires
 put-end-line-requires c κs = omega (arith, decimal-length 19 (c .before .before .args .steps) (search needs))
 
 put-registers-requires : tie.Need-put-registers-requires
-put-registers-requires c κs = let a = c .before .before .before .before .args in
-    omega (arith, c .before .put-end-line .ensures .place, end-size (a .steps) (choose (a .m .run) Spent Halted), decimal-length 19 (a .steps) (search needs))
+put-registers-requires c κs = let end = c .before in
+    omega (arith, end .put-end-line .ensures .place, last-line (end .before .before .before))
 
 put-rows-requires : tie.Need-put-rows-requires
-put-rows-requires c κs = let start = c .before .before .before .before .before .before .before in
-    let a = start .args in
-    let before = c .before .before .before .before .put-end-line .ensures .place in
-    omega (arith, start .pre, before, c .before .before .put-registers .ensures .place, end-size (a .steps) (choose (a .m .run) Spent Halted), registers-size (a .m), decimal-length 19 (a .steps) (search needs))
+put-rows-requires c κs = let last = c .before .before in
+    let end = last .before .before in
+    let start = end .before .before .before in
+    omega (arith, start .pre, end .put-end-line .ensures .place, last-line start, last .put-registers .ensures .place, registers-size (start .args .m))
 
 returns : tie.Need-returns
-returns c = let start = c .before .before .before .before .before .before .before .before in
-    let a = start .args in
-    let end = c .before .before .before .before .before .put-end-line .ensures in
-    let last = c .before .before .before .put-registers .ensures in
+returns c = let last = c .before .before .before in
+    let end = last .before .before in
+    let start = end .before .before .before in
+    let title = end .put-end-line .ensures in
+    let registers = last .put-registers .ensures in
     let rows = c .put-rows .ensures in
     written-page pageBytes _ (search needs)
-    (omega (arith, start .pre, rows .room, last .place, end .place, end-size (a .steps) (choose (a .m .run) Spent Halted), registers-size (a .m), decimal-length 19 (a .steps) (search needs)))
-    (written-then _ _ (written-then _ _ end last) (rows .written))
+    (omega (arith, start .pre, rows .room, registers .place, title .place, last-line start, registers-size (start .args .m)))
+    (written-then _ _ (written-then _ _ title registers) (rows .written))
 
 pub put-answer-spec : {M : Type 1} → statement M
 put-answer-spec =

@@ -13,11 +13,15 @@ put-field-requires : tie.Need-put-field-requires
 put-field-requires c κs = search needs
 
 put-byte-requires : tie.Need-put-byte-requires
-put-byte-requires c κs = let a = c .before .before .before .before .before .before .args in
-    omega (arith, octal-length (a .n) (a .value), c .before .put-field .ensures .place, c .before .before .before .put-text .ensures .place, c .before .before .before .before .before .before .pre)
+put-byte-requires c κs = let value = c .before in
+    let name = value .before .before in
+    let start = name .before .before .before in
+    let digits = octal-length (start .args .n) (start .args .value) in
+    omega (arith, digits, value .put-field .ensures .place, name .put-text .ensures .place, start .pre)
 
 returns : tie.Need-returns
-returns c = written-then _ _ (written-then _ _ (c .before .before .before .before .put-text .ensures) (c .before .before .put-field .ensures)) (c .put-byte .ensures)
+returns c = let value = c .before .before in
+    written-then _ _ (written-then _ _ (value .before .before .put-text .ensures) (value .put-field .ensures)) (c .put-byte .ensures)
 
 pub put-register-spec : {M : Type 1} → statement M
 put-register-spec =

@@ -5,40 +5,59 @@ use mathlib.Core.List.{[], _∷_}
 use native.Mathlib.Omega.{arith}
 use Prim.Native.Nat.{_≤_}
 use lib.ListN.{length}
+use Rattle.page.specs.Text.{decimal}
 use Rattle.page.proofs.Numbers.{decimal-length}
 use Rattle.page.proofs.Writing.{written-then}
 use Rattle.run_lines.specs.Rows.{rowOf, rowLine}
-use Rattle.run_lines.proofs.RowTexts.{row-size}
+use Rattle.run_lines.proofs.RowTexts.{rowTextBytes, row-size}
 use Rattle.run_lines.proofs.rows.put_row.Statement.{statement}
 use Rattle.run_lines.proofs.rows.put_row.Tie as tie
 
+-- a number below 256
+digits : (start : tie.Start) → length (decimal (start .args .k)) ≤ 3
+digits start = decimal-length 2 (start .args .k) (omega arith)
+
+-- the text is one of the shipped rows'
+text-size : (c : tie.After-row-of) → length (c .row-of .result .now) ≤ rowTextBytes
+text-size c = let start = c .before .before .before .before .before .before .before in
+    rw (c .row-of .ensures, start .pre .0) (row-size (start .args .k))
+
 put-decimal-requires : tie.Need-put-decimal-requires
 put-decimal-requires c κs = let start = c .before in
-    omega (arith, decimal-length 2 (start .args .k) (omega arith), start .pre .1)
+    omega (arith, digits start, start .pre .1)
 
 put-byte-requires : tie.Need-put-byte-requires
-put-byte-requires c κs = let start = c .before .before .before in
-    omega (arith, decimal-length 2 (start .args .k) (omega arith), start .pre .1, c .before .put-decimal .ensures .place)
+put-byte-requires c κs = let number = c .before in
+    let start = number .before .before in
+    omega (arith, digits start, start .pre .1, number .put-decimal .ensures .place)
 
 row-of-requires : tie.Need-row-of-requires
 row-of-requires c κs = search needs
 
 put-text-requires : tie.Need-put-text-requires
-put-text-requires c κs = let start = c .before .before .before .before .before .before .before in
-    let row : length (c .row-of .result .now) ≤ 50 = rw (c .row-of .ensures, start .pre .0) (row-size (start .args .k)) in
-    omega (arith, decimal-length 2 (start .args .k) (omega arith), start .pre .1, c .before .before .before .before .before .put-decimal .ensures .place, c .before .before .before .put-byte .ensures .place)
+put-text-requires c κs = let tab = c .before .before .before in
+    let number = tab .before .before in
+    let start = number .before .before in
+    omega (arith, digits start, text-size c, start .pre .1, number .put-decimal .ensures .place, tab .put-byte .ensures .place)
 
 put-byte-requires-2 : tie.Need-put-byte-requires-2
-put-byte-requires-2 c κs = let start = c .before .before .before .before .before .before .before .before .before in
-    let row : length (c .before .before .row-of .result .now) ≤ 50 = rw (c .before .before .row-of .ensures, start .pre .0) (row-size (start .args .k)) in
-    omega (arith, decimal-length 2 (start .args .k) (omega arith), start .pre .1, c .before .before .before .before .before .before .before .put-decimal .ensures .place, c .before .before .before .before .before .put-byte .ensures .place, c .before .put-text .ensures .place)
+put-byte-requires-2 c κs = let text = c .before in
+    let row = text .before in
+    let tab = row .before .before .before in
+    let number = tab .before .before in
+    let start = number .before .before in
+    omega (arith, digits start, text-size row, start .pre .1, number .put-decimal .ensures .place, tab .put-byte .ensures .place, text .put-text .ensures .place)
 
 returns : tie.Need-returns
 unfolding rowLine
-returns c = let start = c .before .before .before .before .before .before .before .before .before .before in
-    let row = c .before .before .before .row-of .ensures ∙ ap (rowOf (start .args .k)) (start .pre .0) in
+returns c = let text = c .before .before in
+    let row = text .before in
+    let tab = row .before .before .before in
+    let number = tab .before .before in
+    let start = number .before .before in
+    let is = row .row-of .ensures ∙ ap (rowOf (start .args .k)) (start .pre .0) in
     written-then _ _
-    (written-then _ _ (c .before .before .before .before .before .before .before .before .put-decimal .ensures) (written-then (_ ∷ []) _ (c .before .before .before .before .before .before .put-byte .ensures) (rw row at (c .before .before .put-text .ensures))))
+    (written-then _ _ (number .put-decimal .ensures) (written-then (_ ∷ []) _ (tab .put-byte .ensures) (rw is at (text .put-text .ensures))))
     (c .put-byte2 .ensures)
 
 pub put-row-spec : {M : Type 1} → statement M

@@ -25,11 +25,16 @@ unfolding rowLines
 loop-holds c = (omega arith, omega arith, written-none _ _)
 
 shared-slice-read-put-row : tie.Need-shared-slice-read-put-row Inv-loop μ-loop
-shared-slice-read-put-row c = omega (arith, c .before .before .before .loop-test .taken, c .before .before .before .before .before .before .before .pre .0)
+shared-slice-read-put-row c = let test = c .before .before .before in
+    let start = test .before .before .before .before in
+    omega (arith, test .loop-test .taken, start .pre .0)
 
 put-row-requires : tie.Need-put-row-requires Inv-loop μ-loop
-put-row-requires c κs = let at = c .before .before .before .before .loop in
-    (c .before .before .before .before .before .shipped-text .ensures, omega (arith, at .inv .1, c .before .before .before .loop-test .taken, c .before .before .before .before .before .before .before .pre .1))
+put-row-requires c κs = let test = c .before .before .before in
+    let head = test .before in
+    let text = head .before in
+    let start = text .before .before in
+    (text .shipped-text .ensures, omega (arith, head .loop .inv .1, test .loop-test .taken, start .pre .1))
 
 add-i : tie.Need-add-i Inv-loop μ-loop
 add-i c = search needs
@@ -38,13 +43,15 @@ loop-less : tie.Need-loop-less Inv-loop μ-loop
 loop-less c = omega (arith, c .before .before .before .before .loop-test .taken)
 
 loop-again : tie.Need-loop-again Inv-loop μ-loop
-loop-again c = let at = c .before .before .before .before .before .loop in
-    let start = c .before .before .before .before .before .before .before .before in
+loop-again c = let test = c .before .before .before .before in
+    let at = test .before .loop in
+    let start = test .before .before .before .before in
     let rows = start .args .rows .now in
-    let small = row-line-size (getD rows (at .i) 0) (omega (arith, c .before .shared-slice-known2 .given (at .i))) in (
-      omega (arith, c .before .before .before .before .loop-test .taken),
+    let small = row-line-size (getD rows (at .i) 0) (omega (arith, c .before .shared-slice-known2 .given (at .i))) in
+    let more = rows-more rows (at .i) (omega (arith, test .loop-test .taken, start .pre .0)) in (
+      omega (arith, test .loop-test .taken),
       omega (arith, at .inv .1, c .put-row .ensures .place),
-      rw (rows-more rows (at .i) (omega (arith, c .before .before .before .before .loop-test .taken, start .pre .0))) (written-then _ _ (at .inv .2) (c .put-row .ensures)),
+      rw more (written-then _ _ (at .inv .2) (c .put-row .ensures)),
     )
 
 returns : tie.Need-returns Inv-loop μ-loop

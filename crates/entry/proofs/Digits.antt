@@ -1,4 +1,4 @@
--- A field of digits: its length, and how large a number it stands for.
+-- A field of digits: its length, and how large a number it stands for; and how wide a register is at most.
 -- Assumes nothing.
 use mathlib.Core.Path.{_≡_}
 use mathlib.Core.Bool.{true}
@@ -6,9 +6,10 @@ use mathlib.Core.List.{List}
 use Prim.Native.Nat.{ℕ, zero, suc, _*_, _^_, _≤_, _<_}
 use native.Mathlib.Nat.{zero-add}
 use native.Mathlib.Omega.{arith}
-use lib.Dec.{eqb}
+use lib.Dec.{eqb, lit≤}
 use lib.ListN.{length, getD}
 use borrow.Author.Tests.{eqb-true}
+use Rattle.word.specs.Word.{widest}
 use Rattle.machine.specs.State.{widths}
 use Rattle.characters.specs.Characters.{runEnd}
 use Rattle.constants.specs.Constants.{numberAt}
@@ -22,7 +23,7 @@ module _ (k : Class) (n : ℕ) (field : List ℕ) (t : isDigits k n field ≡ tr
   pub digits-size : length field ≡ n
   digits-size = eqb-true _ _ (and-left (eqb (length field) n) (eqb (runEnd k field 0) n) t)
 
-  pub digits-run : runEnd k field 0 ≡ n
+  digits-run : runEnd k field 0 ≡ n
   digits-run = eqb-true _ _ (and-right (eqb (length field) n) (eqb (runEnd k field 0) n) t)
 
 -- three bits for each octal digit
@@ -30,12 +31,12 @@ pub octal-lt : (n : ℕ) (field : List ℕ) → isDigits Octal n field ≡ true 
 octal-lt n field t =
     rw (zero-add (3 * n)) at (value-lt Octal 3 octal-small field n 0 0 0 (omega (arith, digits-run Octal n field t)) (omega arith))
 
--- no register is wider than LAC
-pub width-le : (k : ℕ) → getD widths k 0 ≤ 13
-width-le zero = omega arith
-width-le (suc zero) = omega arith
-width-le (suc (suc zero)) = omega arith
-width-le (suc (suc (suc zero))) = omega arith
-width-le (suc (suc (suc (suc zero)))) = omega arith
-width-le (suc (suc (suc (suc (suc zero))))) = omega arith
-width-le (suc (suc (suc (suc (suc (suc k)))))) = omega arith
+-- no register is wider than 16 bits
+pub widths-small : (k : ℕ) → getD widths k 0 ≤ widest
+widths-small zero = lit≤ tt
+widths-small (suc zero) = lit≤ tt
+widths-small (suc (suc zero)) = lit≤ tt
+widths-small (suc (suc (suc zero))) = lit≤ tt
+widths-small (suc (suc (suc (suc zero)))) = lit≤ tt
+widths-small (suc (suc (suc (suc (suc zero))))) = lit≤ tt
+widths-small (suc (suc (suc (suc (suc (suc k)))))) = lit≤ tt

@@ -2,6 +2,7 @@
 -- Assumes nothing.
 use mathlib.Core.Path.{_≡_, refl}
 use mathlib.Core.List.{[], _∷_, map}
+use lib.ListN.{replicate}
 use Rattle.page.specs.Text.{ascii}
 use Rattle.characters.specs.Characters.{run, runEnd, same}
 use Rattle.constants.specs.Constants.{numberAt}
@@ -58,6 +59,6 @@ unfit-lines : map entry (
     ∷ ascii "\t0200"
     ∷ []
     ∷ [])
-    ≡ Unfit ∷ Unfit ∷ Unfit ∷ Unfit ∷ Unfit ∷ Unfit ∷ Unfit ∷ Unfit ∷ Unfit ∷ Unfit ∷ Unfit ∷ Unfit ∷ Unfit ∷ Unfit ∷ Unfit ∷ Unfit ∷ Unfit ∷ Unfit ∷ []
+    ≡ replicate 18 Unfit
 unfolding run runEnd same numberAt field hasFields find wordEntry registerEntry budgetEntry said entry
 unfit-lines = refl

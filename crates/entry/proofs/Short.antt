@@ -1,9 +1,9 @@
 -- No fit line is longer than the scanner's buffer.
 -- Assumes nothing.
 use mathlib.Core.Path.{_≡_, refl, sym, ap, _∙_, subst}
-use mathlib.Core.Bool.{true, false, _&&_}
+use mathlib.Core.Bool.{Bool, true, false, _&&_, false≢true}
 use mathlib.Core.List.{List, [], _∷_}
-use Prim.Native.Nat.{ℕ, zero, suc, _+_, _≤_, _<_}
+use Prim.Native.Nat.{ℕ, _+_, _≤_, _<_}
 use native.Mathlib.Omega.{arith}
 use lib.Dec.{eqb, leb, ltb}
 use lib.ListN.{length, getD, length-drop}
@@ -17,14 +17,15 @@ use Rattle.constants.specs.Constants.{numberAt}
 use Rattle.fields.specs.Fields.{tab, until, after, field, hasFields}
 use Rattle.names.specs.Names.{Named, find}
 use Rattle.characters.specs.declared.Class.the-variants.{Octal, Decimal}
+use Rattle.names.proofs.Entries.{found-later}
 use Rattle.characters.proofs.Cases.{by-case}
 use Rattle.fields.proofs.Lines.{before-length}
 use Rattle.characters.proofs.Strings.{equal}
 use Rattle.characters.proofs.Tests.{and-left, and-right, by-test}
-use Rattle.entry.specs.Lines.{machineRegisters, digitsOf, isDigits, wordEntry, registerEntry, budgetEntry, said, entry, isUnfit, lineBytes}
+use Rattle.entry.specs.Lines.{machineRegisters, digitsOf, isDigits, budgetDigits, wordEntry, registerEntry, budgetEntry, said, entry, isUnfit, lineBytes}
 use Rattle.entry.specs.declared.Entry.{Entry}
 use Rattle.entry.specs.declared.Entry.the-variants.{Word, Register, Budget, Unfit}
-use Rattle.entry.proofs.Digits.{digits-size, width-le}
+use Rattle.entry.proofs.Digits.{digits-size, widths-small}
 
 -- an entry that is unfit unless n is at most m
 abbrev Within : ℕ → ℕ → Entry → Type 0
@@ -39,17 +40,20 @@ beyond n m (Register place value) w h = absurd (omega arith)
 beyond n m (Budget steps) w h = absurd (omega arith)
 beyond n m Unfit w h = refl
 
--- a name of the table is one of its names
-found : (most : ℕ) (name : List ℕ) (table : List Named) → ((k : ℕ) → k < length table → length (getD table k (record { name = []; number = 0 }) .name) ≤ most)
-    → find name table < length table → length name ≤ most
-unfolding find
-found most name [] short h = absurd (omega arith)
-found most name (e ∷ table) short h =
+-- whether no name of a table has more than n bytes
+abbrev allWithin : ℕ → List Named → Bool
+allWithin n [] = true
+allWithin n (e ∷ table) = leb (length (e .name)) n && allWithin n table
+
+-- a name that is found has no more either
+found-within : (n : ℕ) (name : List ℕ) (table : List Named) → allWithin n table ≡ true → find name table < length table → length name ≤ n
+found-within n name [] all h = absurd (omega arith)
+found-within n name (e ∷ table) all h =
     by-test (same (e .name) name)
-    (λ t. rw (ap length (equal (e .name) name t)) at (short 0 (omega arith)))
+    (λ t. rw (ap length (equal (e .name) name t)) at (leb-true (length (e .name)) n (and-left (leb (length (e .name)) n) (allWithin n table) all)))
     (λ t.
-    let later : find name (e ∷ table) ≡ suc (find name table) = rw (t, find) in
-    found most name table (λ k l. short (suc k) (omega arith)) (omega arith))
+    let later = found-later name e table t in
+    found-within n name table (and-right (leb (length (e .name)) n) (allWithin n table) all) (omega arith))
 
 -- two fields and the TAB between them
 two-fields : (line : List ℕ) → hasFields 2 line ≡ true → length line ≡ length (field 0 line) + 1 + length (field 1 line)
@@ -57,22 +61,16 @@ unfolding hasFields field
 two-fields line t =
     by-test (ltb 0 (until tab line) && ltb (until tab line) (length line))
     (λ e.
+    let rest = after tab line in
     let inner : until tab line < length line = ltb-true _ _ (and-right (ltb 0 (until tab line)) (ltb (until tab line) (length line)) e) in
-    let last : hasFields 2 line ≡ (ltb 0 (until tab (after tab line)) && eqb (until tab (after tab line)) (length (after tab line))) = rw (e, hasFields) in
-    let whole : until tab (after tab line) ≡ length (after tab line) = eqb-true _ _ (and-right (ltb 0 (until tab (after tab line))) (eqb (until tab (after tab line)) (length (after tab line))) (sym last ∙ t)) in
-    omega (arith, before-length tab line, before-length tab (after tab line), length-drop (until tab line + 1) line))
+    let last : hasFields 2 line ≡ (ltb 0 (until tab rest) && eqb (until tab rest) (length rest)) = rw (e, hasFields) in
+    let whole : until tab rest ≡ length rest = eqb-true _ _ (and-right (ltb 0 (until tab rest)) (eqb (until tab rest) (length rest)) (sym last ∙ t)) in
+    omega (arith, before-length tab line, before-length tab rest, length-drop (until tab line + 1) line))
     (λ e.
     let none : hasFields 2 line ≡ false = rw (e, hasFields) in
-    absurd (mathlib.Core.Bool.false≢true (sym none ∙ t)))
+    absurd (false≢true (sym none ∙ t)))
 
-names-short : (k : ℕ) → k < length machineRegisters → length (getD machineRegisters k (record { name = []; number = 0 }) .name) ≤ 17
-names-short zero h = omega arith
-names-short (suc zero) h = omega arith
-names-short (suc (suc zero)) h = omega arith
-names-short (suc (suc (suc zero))) h = omega arith
-names-short (suc (suc (suc (suc zero)))) h = omega arith
-names-short (suc (suc (suc (suc (suc zero))))) h = omega arith
-names-short (suc (suc (suc (suc (suc (suc k)))))) h = absurd (omega arith)
+-- ---- each kind of entry
 
 word-within : (address word : List ℕ) → Within (length address + 1 + length word) lineBytes (wordEntry address word)
 unfolding wordEntry
@@ -84,25 +82,27 @@ word-within address word =
     omega arith)
     (λ t. tt)
 
-register-within : (name value : List ℕ) (place : ℕ) → length name ≤ 17 → Within (length name + 1 + length value) lineBytes (registerEntry place (getD widths place 0) value)
+register-within : (name value : List ℕ) (place : ℕ) → length name ≤ 17
+    → Within (length name + 1 + length value) lineBytes (registerEntry place (getD widths place 0) value)
 unfolding registerEntry
 register-within name value place h =
     let n = digitsOf (getD widths place 0) in
     by-case (Within (length name + 1 + length value) lineBytes) (isDigits Octal n value && fits (getD widths place 0) (numberAt 8 value 0 n 0))
     (λ t.
     let size = digits-size Octal n value (and-left (isDigits Octal n value) (fits (getD widths place 0) (numberAt 8 value 0 n 0)) t) in
-    omega (arith, width-le place))
+    omega (arith, widths-small place))
     (λ t. tt)
 
 budget-within : (name value : List ℕ) → length name ≡ 6 → Within (length name + 1 + length value) lineBytes (budgetEntry value)
 unfolding budgetEntry
 budget-within name value h =
-    let few = ltb 0 (length value) && leb (length value) 7 in
+    let few = ltb 0 (length value) && leb (length value) budgetDigits in
     let digits = isDigits Decimal (length value) value in
     let small = leb (numberAt 10 value 0 (length value) 0) budgetLimit in
     by-case (Within (length name + 1 + length value) lineBytes) (few && digits && small)
     (λ t.
-    let most = leb-true (length value) 7 (and-right (ltb 0 (length value)) (leb (length value) 7) (and-left few digits (and-left (few && digits) small t))) in
+    let some = and-left few digits (and-left (few && digits) small t) in
+    let most = leb-true (length value) budgetDigits (and-right (ltb 0 (length value)) (leb (length value) budgetDigits) some) in
     omega arith)
     (λ t. tt)
 
@@ -114,7 +114,7 @@ said-within name value =
     (λ t. budget-within name value (ap length (equal name (ascii "budget") t)))
     (λ t.
     by-case (Within (length name + 1 + length value) lineBytes) (ltb place (length machineRegisters))
-    (λ u. register-within name value place (found 17 name machineRegisters names-short (ltb-true place (length machineRegisters) u)))
+    (λ u. register-within name value place (found-within 17 name machineRegisters refl (ltb-true place (length machineRegisters) u)))
     (λ u. word-within name value))
 
 entry-within : (line : List ℕ) → Within (length line) lineBytes (entry line)
@@ -124,5 +124,6 @@ entry-within line =
     (λ t. subst (λ (n : ℕ). Within n lineBytes (said (field 0 line) (field 1 line))) (sym (two-fields line t)) (said-within (field 0 line) (field 1 line)))
     (λ t. tt)
 
+-- the scanner need not keep more of a line
 pub long-unfit : (line : List ℕ) → lineBytes < length line → isUnfit (entry line) ≡ true
 long-unfit line h = beyond (length line) lineBytes (entry line) (entry-within line) h

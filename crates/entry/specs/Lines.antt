@@ -1,5 +1,5 @@
--- What a line of an inquiry says, its LF aside: a line of an image as for the day listing, or one of the "optional lines for machine registers (name, TAB, octal)
--- and `budget`, TAB, decimal".
+-- What a line of an inquiry says, its LF aside: a line of an image as for the day listing, or one of the "optional lines for machine
+-- registers (name, TAB, octal) and `budget`, TAB, decimal".
 -- Assumes nothing.
 use mathlib.Core.List.{List, [], _∷_}
 use mathlib.Core.Bool.{Bool, true, false, _&&_}

@@ -13,6 +13,7 @@ pub const REGISTERS: usize = 6;
 // No fit line has more bytes.
 pub const LINE_BYTES: usize = 24;
 
+// The bits of each register, in their order.
 const WIDTHS: [u64; REGISTERS] = [13, 12, 1, 1, 1, 12];
 
 const BUDGET_DIGITS: usize = 7;

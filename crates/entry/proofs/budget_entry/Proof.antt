@@ -6,7 +6,7 @@ use lib.Dec.{ltb, leb}
 use lib.ListN.{length}
 use borrow.Author.Tests.{leb-true, le-leb, lt-leb}
 use Rattle.characters.proofs.Tests.{and-left, and-right}
-use Rattle.entry.specs.Lines.{budgetEntry}
+use Rattle.entry.specs.Lines.{budgetDigits, budgetEntry}
 use Rattle.entry.proofs.budget_entry.Statement.{statement}
 use Rattle.entry.proofs.budget_entry.Tie as tie
 
@@ -15,8 +15,8 @@ is-digits-requires c κs = search needs
 
 digits-value-requires : tie.Need-digits-value-requires
 digits-value-requires c κs = let value = c .before .before .before .args .value .now in
-    let few = and-left (ltb 0 (length value) && leb (length value) 7) (c .before .is-digits .result) (c .if1 .taken) in
-    omega (arith, leb-true (length value) 7 (and-right (ltb 0 (length value)) (leb (length value) 7) few))
+    let few = and-left (ltb 0 (length value) && leb (length value) budgetDigits) (c .before .is-digits .result) (c .if1 .taken) in
+    omega (arith, leb-true (length value) budgetDigits (and-right (ltb 0 (length value)) (leb (length value) budgetDigits) few))
 
 returns : tie.Need-returns
 unfolding budgetEntry

@@ -19,7 +19,10 @@ two-fields-requires c κs = search needs
 
 returns : tie.Need-returns
 unfolding entry
-returns c = rw (sym (c .before .before .before .before .has-fields .ensures) ∙ c .before .before .before .if1 .taken, ← c .before .before .field-of .ensures, ← c .before .field-of2 .ensures, entry) (c .two-fields .ensures)
+returns c = let value = c .before in
+    let name = value .before in
+    let test = name .before in
+    rw (sym (test .before .has-fields .ensures) ∙ test .if1 .taken, ← name .field-of .ensures, ← value .field-of2 .ensures, entry) (c .two-fields .ensures)
 
 returns-2 : tie.Need-returns-2
 unfolding entry

@@ -1,9 +1,51 @@
 -- `entry::register_place`: the names one after the other.
 use borrow.Author.Needs.{needs}
-use mathlib.Core.Path.{sym, _∙_}
+use mathlib.Core.Path.{_≡_, refl, sym, ap, _∙_}
+use mathlib.Core.List.{List}
+use Prim.Native.Nat.{ℕ, suc}
+use lib.ListN.{drop}
 use Rattle.names.specs.Names.{find}
+use Rattle.names.proofs.Entries.{found-here, found-later}
+use Rattle.entry.specs.Lines.{machineRegisters}
 use Rattle.entry.proofs.register_place.Statement.{statement}
 use Rattle.entry.proofs.register_place.Tie as tie
+
+-- past1 to past6: the name is none of the first so many registers', and what the rest of the search comes to is counted from there
+abbrev name1 : tie.Else1 → List ℕ
+name1 c = c .before .before .before .before .args .name .now
+
+past1 : (c : tie.Else1) {n : ℕ} → find (name1 c) (drop 1 machineRegisters) ≡ n → find (name1 c) machineRegisters ≡ suc n
+past1 c later = found-later (name1 c) _ _ (sym (c .before .is-same .ensures) ∙ c .if1 .left) ∙ ap suc later
+
+abbrev name2 : tie.Else2 → List ℕ
+name2 c = name1 (c .before .before .before)
+
+past2 : (c : tie.Else2) {n : ℕ} → find (name2 c) (drop 2 machineRegisters) ≡ n → find (name2 c) machineRegisters ≡ suc (suc n)
+past2 c later = past1 (c .before .before .before) (found-later (name2 c) _ _ (sym (c .before .is-same2 .ensures) ∙ c .if2 .left) ∙ ap suc later)
+
+abbrev name3 : tie.Else3 → List ℕ
+name3 c = name2 (c .before .before .before)
+
+past3 : (c : tie.Else3) {n : ℕ} → find (name3 c) (drop 3 machineRegisters) ≡ n → find (name3 c) machineRegisters ≡ suc (suc (suc n))
+past3 c later = past2 (c .before .before .before) (found-later (name3 c) _ _ (sym (c .before .is-same3 .ensures) ∙ c .if3 .left) ∙ ap suc later)
+
+abbrev name4 : tie.Else4 → List ℕ
+name4 c = name3 (c .before .before .before)
+
+past4 : (c : tie.Else4) {n : ℕ} → find (name4 c) (drop 4 machineRegisters) ≡ n → find (name4 c) machineRegisters ≡ suc (suc (suc (suc n)))
+past4 c later = past3 (c .before .before .before) (found-later (name4 c) _ _ (sym (c .before .is-same4 .ensures) ∙ c .if4 .left) ∙ ap suc later)
+
+abbrev name5 : tie.Else5 → List ℕ
+name5 c = name4 (c .before .before .before)
+
+past5 : (c : tie.Else5) {n : ℕ} → find (name5 c) (drop 5 machineRegisters) ≡ n → find (name5 c) machineRegisters ≡ suc (suc (suc (suc (suc n))))
+past5 c later = past4 (c .before .before .before) (found-later (name5 c) _ _ (sym (c .before .is-same5 .ensures) ∙ c .if5 .left) ∙ ap suc later)
+
+abbrev name6 : tie.Else6 → List ℕ
+name6 c = name5 (c .before .before .before)
+
+past6 : (c : tie.Else6) {n : ℕ} → find (name6 c) (drop 6 machineRegisters) ≡ n → find (name6 c) machineRegisters ≡ suc (suc (suc (suc (suc (suc n)))))
+past6 c later = past5 (c .before .before .before) (found-later (name6 c) _ _ (sym (c .before .is-same6 .ensures) ∙ c .if6 .left) ∙ ap suc later)
 
 slice-aggregate-is-same : tie.Need-slice-aggregate-is-same
 slice-aggregate-is-same c = search needs
@@ -12,11 +54,7 @@ is-same-requires : tie.Need-is-same-requires
 is-same-requires c κs = search needs
 
 returns : tie.Need-returns
-unfolding find
-returns c = rw (
-  sym (c .before .is-same .ensures) ∙ c .if1 .taken,
-  find,
-)
+returns c = sym (found-here _ _ _ (sym (c .before .is-same .ensures) ∙ c .if1 .taken))
 
 slice-aggregate-is-same-2 : tie.Need-slice-aggregate-is-same-2
 slice-aggregate-is-same-2 c = search needs
@@ -25,12 +63,7 @@ is-same-requires-2 : tie.Need-is-same-requires-2
 is-same-requires-2 c κs = search needs
 
 returns-2 : tie.Need-returns-2
-unfolding find
-returns-2 c = rw (
-  sym (c .before .before .before .before .is-same .ensures) ∙ c .before .before .before .if1 .left,
-  sym (c .before .is-same2 .ensures) ∙ c .if2 .taken,
-  find,
-)
+returns-2 c = sym (past1 (c .before .before .before) (found-here _ _ _ (sym (c .before .is-same2 .ensures) ∙ c .if2 .taken)))
 
 slice-aggregate-is-same-3 : tie.Need-slice-aggregate-is-same-3
 slice-aggregate-is-same-3 c = search needs
@@ -39,13 +72,7 @@ is-same-requires-3 : tie.Need-is-same-requires-3
 is-same-requires-3 c κs = search needs
 
 returns-3 : tie.Need-returns-3
-unfolding find
-returns-3 c = rw (
-  sym (c .before .before .before .before .before .before .before .is-same .ensures) ∙ c .before .before .before .before .before .before .if1 .left,
-  sym (c .before .before .before .before .is-same2 .ensures) ∙ c .before .before .before .if2 .left,
-  sym (c .before .is-same3 .ensures) ∙ c .if3 .taken,
-  find,
-)
+returns-3 c = sym (past2 (c .before .before .before) (found-here _ _ _ (sym (c .before .is-same3 .ensures) ∙ c .if3 .taken)))
 
 slice-aggregate-is-same-4 : tie.Need-slice-aggregate-is-same-4
 slice-aggregate-is-same-4 c = search needs
@@ -54,14 +81,7 @@ is-same-requires-4 : tie.Need-is-same-requires-4
 is-same-requires-4 c κs = search needs
 
 returns-4 : tie.Need-returns-4
-unfolding find
-returns-4 c = rw (
-  sym (c .before .before .before .before .before .before .before .before .before .before .is-same .ensures) ∙ c .before .before .before .before .before .before .before .before .before .if1 .left,
-  sym (c .before .before .before .before .before .before .before .is-same2 .ensures) ∙ c .before .before .before .before .before .before .if2 .left,
-  sym (c .before .before .before .before .is-same3 .ensures) ∙ c .before .before .before .if3 .left,
-  sym (c .before .is-same4 .ensures) ∙ c .if4 .taken,
-  find,
-)
+returns-4 c = sym (past3 (c .before .before .before) (found-here _ _ _ (sym (c .before .is-same4 .ensures) ∙ c .if4 .taken)))
 
 slice-aggregate-is-same-5 : tie.Need-slice-aggregate-is-same-5
 slice-aggregate-is-same-5 c = search needs
@@ -70,15 +90,7 @@ is-same-requires-5 : tie.Need-is-same-requires-5
 is-same-requires-5 c κs = search needs
 
 returns-5 : tie.Need-returns-5
-unfolding find
-returns-5 c = rw (
-  sym (c .before .before .before .before .before .before .before .before .before .before .before .before .before .is-same .ensures) ∙ c .before .before .before .before .before .before .before .before .before .before .before .before .if1 .left,
-  sym (c .before .before .before .before .before .before .before .before .before .before .is-same2 .ensures) ∙ c .before .before .before .before .before .before .before .before .before .if2 .left,
-  sym (c .before .before .before .before .before .before .before .is-same3 .ensures) ∙ c .before .before .before .before .before .before .if3 .left,
-  sym (c .before .before .before .before .is-same4 .ensures) ∙ c .before .before .before .if4 .left,
-  sym (c .before .is-same5 .ensures) ∙ c .if5 .taken,
-  find,
-)
+returns-5 c = sym (past4 (c .before .before .before) (found-here _ _ _ (sym (c .before .is-same5 .ensures) ∙ c .if5 .taken)))
 
 slice-aggregate-is-same-6 : tie.Need-slice-aggregate-is-same-6
 slice-aggregate-is-same-6 c = search needs
@@ -87,28 +99,11 @@ is-same-requires-6 : tie.Need-is-same-requires-6
 is-same-requires-6 c κs = search needs
 
 returns-6 : tie.Need-returns-6
-unfolding find
-returns-6 c = rw (
-  sym (c .before .before .before .before .before .before .before .before .before .before .before .before .before .before .before .before .is-same .ensures) ∙ c .before .before .before .before .before .before .before .before .before .before .before .before .before .before .before .if1 .left,
-  sym (c .before .before .before .before .before .before .before .before .before .before .before .before .before .is-same2 .ensures) ∙ c .before .before .before .before .before .before .before .before .before .before .before .before .if2 .left,
-  sym (c .before .before .before .before .before .before .before .before .before .before .is-same3 .ensures) ∙ c .before .before .before .before .before .before .before .before .before .if3 .left,
-  sym (c .before .before .before .before .before .before .before .is-same4 .ensures) ∙ c .before .before .before .before .before .before .if4 .left,
-  sym (c .before .before .before .before .is-same5 .ensures) ∙ c .before .before .before .if5 .left,
-  sym (c .before .is-same6 .ensures) ∙ c .if6 .taken,
-  find,
-)
+returns-6 c = sym (past5 (c .before .before .before) (found-here _ _ _ (sym (c .before .is-same6 .ensures) ∙ c .if6 .taken)))
 
 returns-7 : tie.Need-returns-7
 unfolding find
-returns-7 c = rw (
-  sym (c .before .before .before .before .before .before .before .before .before .before .before .before .before .before .before .before .is-same .ensures) ∙ c .before .before .before .before .before .before .before .before .before .before .before .before .before .before .before .if1 .left,
-  sym (c .before .before .before .before .before .before .before .before .before .before .before .before .before .is-same2 .ensures) ∙ c .before .before .before .before .before .before .before .before .before .before .before .before .if2 .left,
-  sym (c .before .before .before .before .before .before .before .before .before .before .is-same3 .ensures) ∙ c .before .before .before .before .before .before .before .before .before .if3 .left,
-  sym (c .before .before .before .before .before .before .before .is-same4 .ensures) ∙ c .before .before .before .before .before .before .if4 .left,
-  sym (c .before .before .before .before .is-same5 .ensures) ∙ c .before .before .before .if5 .left,
-  sym (c .before .is-same6 .ensures) ∙ c .if6 .left,
-  find,
-)
+returns-7 c = sym (past6 c refl)
 
 pub register-place-spec : {M : Type 1} → statement M
 register-place-spec =

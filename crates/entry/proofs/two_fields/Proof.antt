@@ -27,15 +27,19 @@ register-entry-requires c κs = search needs
 
 returns-2 : tie.Need-returns-2
 unfolding said
-returns-2 c = let place = c .before .before .register-place .ensures in
-    rw (sym (c .before .before .before .before .is-same .ensures) ∙ c .before .before .before .if1 .left, rw place at (lt-ltb _ _ (c .before .if2 .taken)), said) (rw place at (c .register-entry .ensures))
+returns-2 c = let found = c .before .before in
+    let place = found .register-place .ensures in
+    let other = sym (found .before .before .is-same .ensures) ∙ found .before .if1 .left in
+    rw (other, rw place at (lt-ltb _ _ (c .before .if2 .taken)), said) (rw place at (c .register-entry .ensures))
 
 word-entry-requires : tie.Need-word-entry-requires
 word-entry-requires c κs = search needs
 
 returns-3 : tie.Need-returns-3
 unfolding said
-returns-3 c = rw (sym (c .before .before .before .before .is-same .ensures) ∙ c .before .before .before .if1 .left, rw (c .before .before .register-place .ensures) at (le-ltb _ _ (c .before .if2 .left)), said) (c .word-entry .ensures)
+returns-3 c = let found = c .before .before in
+    let other = sym (found .before .before .is-same .ensures) ∙ found .before .if1 .left in
+    rw (other, rw (found .register-place .ensures) at (le-ltb _ _ (c .before .if2 .left)), said) (c .word-entry .ensures)
 
 pub two-fields-spec : {M : Type 1} → statement M
 two-fields-spec =

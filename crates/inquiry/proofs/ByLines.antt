@@ -114,11 +114,12 @@ at-end n (b ∷ part) q h k z =
     let begun-line : unfitLine (inLine n (b ∷ part) q) ≡ n = ap (λ (t : Bool). pick t n 0) (on-some (suc (length part)) (omega arith)) in
     rw (pushes-none b part) (unfit-first n (record { bytes = b ∷ part; ended = false }) [] q _ k refl begun-line)
 
-module _ (b : ℕ) (text : List ℕ) (n : ℕ) (part : List ℕ) (q : Inquiry) (h : length part ≤ lineBytes) (k : 0 < n) (z : n + (length part + suc (length text)) ≤ 2 ^ 64) where
+module _ (b : ℕ) (text : List ℕ) (n : ℕ) (part : List ℕ) (q : Inquiry) (h : length part ≤ lineBytes) (k : 0 < n)
+    (z : n + (length part + suc (length text)) ≤ 2 ^ 64) where
   abbrev Step : Type 0
   Step = Holds n (pushes part (lines (b ∷ text))) q (pass scanByte (scanByte (inLine n part q) b) text)
 
-  -- an LF, after a line that says something, and after another
+  -- an LF ends the line: one that says something, or another
   at-line-feed : eqb b lineFeed ≡ true → pushes part (lines (b ∷ text)) ≡ record { bytes = part; ended = true } ∷ lines text
   unfolding lines
   at-line-feed f = rw (f, lines) (pushes-feed part (lines text))
@@ -130,7 +131,8 @@ module _ (b : ℕ) (text : List ℕ) (n : ℕ) (part : List ℕ) (q : Inquiry) (
       let read : scanByte (inLine n part q) b ≡ inLine (suc n) [] (entered (entry part) q) =
       at-feed (inLine n part q) b refl f ∙ ends-fit (inLine n part q) (entry part) refl t ∙ ap (λ (m : ℕ). inLine m [] (entered (entry part) q)) number in
       rw (at-line-feed f, read)
-      (fit-first n (record { bytes = part; ended = true }) (lines text) q _ t (later (suc n) [] (entered (entry part) q) (omega arith) (omega arith) (omega arith)))
+      (fit-first n (record { bytes = part; ended = true }) (lines text) q _ t
+      (later (suc n) [] (entered (entry part) q) (omega arith) (omega arith) (omega arith)))
 
   unfit-feed : eqb b lineFeed ≡ true → isUnfit (entry part) ≡ true → Step
   unfit-feed f t =
@@ -147,6 +149,7 @@ module _ (b : ℕ) (text : List ℕ) (n : ℕ) (part : List ℕ) (q : Inquiry) (
       let size : length (part ++ b ∷ []) ≡ length part + 1 = length-append part (b ∷ []) in
       rw (cut, within (inLine n part q) b refl f l) (later n (part ++ b ∷ []) q (omega arith) k (omega arith))
 
+  -- and one that no fit line has room for
   long : eqb b lineFeed ≡ false → lineBytes ≤ length part → Step
   unfolding lines
   long f l =

@@ -1,4 +1,3 @@
-pub mod Entering
 pub mod Scanning
 pub mod ByLines
 pub mod Sound

@@ -1,9 +1,9 @@
 -- What a text asks for is a state that no check turns down: every value keeps its width, the budget its limit.
 -- Assumes nothing.
-use mathlib.Core.Path.{sym, subst}
+use mathlib.Core.Path.{refl, sym, subst}
 use mathlib.Core.Bool.{_&&_}
 use mathlib.Core.List.{List, [], _∷_}
-use Prim.Native.Nat.{ℕ, zero, suc, _^_, _≤_, _<_}
+use Prim.Native.Nat.{ℕ, _^_, _≤_, _<_}
 use native.Mathlib.Omega.{arith}
 use lib.Dec.{eqb, leb, ltb}
 use lib.ListN.{length, getD}
@@ -11,8 +11,9 @@ use borrow.Author.Tests.{ltb-true, leb-true}
 use Rattle.word.specs.Choice.{on}
 use Rattle.word.specs.Word.{wordBits, fits}
 use Rattle.state.specs.Limits.{budgetLimit}
+use Rattle.state.specs.Checks.{firstUnfit}
 use Rattle.state.specs.Acceptable.{Acceptable, Fitting}
-use Rattle.state.proofs.Accepted.{store-acceptable, store-fitting}
+use Rattle.state.proofs.Accepted.{registers-fitting, store-acceptable, store-fitting}
 use Rattle.machine.specs.State.{widths}
 use Rattle.page.specs.Text.{ascii}
 use Rattle.image.specs.Pass.{pass}
@@ -31,6 +32,7 @@ use Rattle.entry.specs.declared.Entry.{Entry}
 use Rattle.entry.specs.declared.Entry.the-variants.{Word, Register, Budget, Unfit}
 use Rattle.entry.proofs.Digits.{octal-lt}
 
+-- what no check of a state turns down
 pub record Sound (q : Inquiry) : Type 0 where
   pub registers : Fitting widths (q .registers)
   pub budget : q .budget ≤ budgetLimit
@@ -88,40 +90,35 @@ enters (Register place value) q h d = record { registers = store-fitting place h
 enters (Budget steps) q h d = record { registers = d .registers; budget = h; memory = d .memory }
 enters Unfit q h d = d
 
-ends : (s : Scan) → Sound (s .inquiry) → Sound (ended s .inquiry)
+abbrev Holds : Scan → Type 0
+Holds s = Sound (s .inquiry)
+
+ends : (s : Scan) → Holds s → Holds (ended s)
 unfolding ended
 ends s d =
-    by-case (λ (t : Scan). Sound (t .inquiry)) (isUnfit (entry (s .part)))
+    by-case Holds (isUnfit (entry (s .part)))
     (λ t. d)
     (λ t. enters (entry (s .part)) (s .inquiry) (entry-narrow (s .part)) d)
 
-byte : (s : Scan) (b : ℕ) → Sound (s .inquiry) → Sound (scanByte s b .inquiry)
+byte : (s : Scan) (b : ℕ) → Holds s → Holds (scanByte s b)
 unfolding scanByte
 byte s b d =
-    by-case (λ (t : Scan). Sound (t .inquiry)) (on (s .refused))
+    by-case Holds (on (s .refused))
     (λ t. d)
     (λ t.
-    by-case (λ (t : Scan). Sound (t .inquiry)) (eqb b lineFeed)
+    by-case Holds (eqb b lineFeed)
     (λ u. ends s d)
-    (λ u. by-case (λ (t : Scan). Sound (t .inquiry)) (ltb (length (s .part)) lineBytes) (λ v. d) (λ v. d)))
+    (λ u. by-case Holds (ltb (length (s .part)) lineBytes) (λ v. d) (λ v. d)))
 
-after : (s : Scan) (text : List ℕ) → Sound (s .inquiry) → Sound (pass scanByte s text .inquiry)
+after : (s : Scan) (text : List ℕ) → Holds s → Holds (pass scanByte s text)
 unfolding pass
 after s [] d = d
 after s (b ∷ text) d = after (scanByte s b) text (byte s b d)
 
-ready-narrow : (k : ℕ) → getD (0 ∷ 0o200 ∷ 1 ∷ 0 ∷ 0 ∷ 0 ∷ []) k 0 < 2 ^ getD widths k 0
-ready-narrow zero = omega arith
-ready-narrow (suc zero) = omega arith
-ready-narrow (suc (suc zero)) = omega arith
-ready-narrow (suc (suc (suc zero))) = omega arith
-ready-narrow (suc (suc (suc (suc zero)))) = omega arith
-ready-narrow (suc (suc (suc (suc (suc zero))))) = omega arith
-ready-narrow (suc (suc (suc (suc (suc (suc k)))))) = omega arith
-
 ready-sound : Sound ready
-unfolding ready
-ready-sound = record { registers = record { narrow = ready-narrow }; budget = omega arith; memory = clear-acceptable }
+unfolding ready firstUnfit
+ready-sound = record { registers = registers-fitting widths (ready .registers) refl; budget = omega arith; memory = clear-acceptable }
 
+-- after every text
 pub reached-sound : (s : Scan) → Reached s → Sound (s .inquiry)
-reached-sound s r = subst (λ (t : Scan). Sound (t .inquiry)) (sym (r .is)) (after begun (r .text) ready-sound)
+reached-sound s r = subst Holds (sym (r .is)) (after begun (r .text) ready-sound)

@@ -23,10 +23,12 @@ refused-requires : tie.Need-refused-requires
 refused-requires c κs = search needs
 
 returns : tie.Need-returns
-returns c = let read = c .before .before .before in
-    let a = c .before .before .before .before .before .before .before .args in
+returns c = let test = c .before in
+    let read = test .before .before in
+    let a = read .before .before .before .before .args in
     let says = read .entry-of .ensures ∙ ap entry (read .before .part .ensures) in
-    c .refused .ensures (a .memory .now) ∙ sym (ends-unfit (held (a .s) (a .memory .now)) _ says (sym (c .before .before .is-unfit .ensures) ∙ c .before .if1 .taken))
+    let unfit = sym (test .before .is-unfit .ensures) ∙ test .if1 .taken in
+    c .refused .ensures (a .memory .now) ∙ sym (ends-unfit (held (a .s) (a .memory .now)) _ says unfit)
 
 entered-requires : tie.Need-entered-requires
 entered-requires c κs = search needs
@@ -35,10 +37,12 @@ next-line-requires : tie.Need-next-line-requires
 next-line-requires c κs = search needs
 
 returns-2 : tie.Need-returns-2
-returns-2 c = let read = c .before .before .before .before .before in
-    let a = c .before .before .before .before .before .before .before .before .before .args in
+returns-2 c = let test = c .before .before .before in
+    let read = test .before .before in
+    let a = read .before .before .before .before .args in
     let says = read .entry-of .ensures ∙ ap entry (read .before .part .ensures) in
-    c .next-line .ensures _ ∙ ap atNextLine (c .before .entered .ensures) ∙ sym (ends-fit (held (a .s) (a .memory .now)) _ says (sym (c .before .before .before .before .is-unfit .ensures) ∙ c .before .before .before .if1 .left))
+    let fit = sym (test .before .is-unfit .ensures) ∙ test .if1 .left in
+    c .next-line .ensures _ ∙ ap atNextLine (c .before .entered .ensures) ∙ sym (ends-fit (held (a .s) (a .memory .now)) _ says fit)
 
 pub end-line-spec : {M : Type 1} → statement M
 end-line-spec =

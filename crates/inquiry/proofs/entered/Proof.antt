@@ -2,13 +2,24 @@
 use borrow.Author.Needs.{needs}
 use mathlib.Core.Path.{_≡_, sym, ap, _∙_}
 use native.Mathlib.Omega.{arith}
-use Prim.Native.Nat.{_≤_}
+use mathlib.Core.List.{List}
+use Prim.Native.Nat.{ℕ, _≤_}
 use lib.ListN.{length}
-use Rattle.inquiry.specs.Input.{entered}
-use Rattle.inquiry.specs.Scan.{held, entering}
-use Rattle.inquiry.proofs.Entering.{no-register}
+use lib.Seq.{set-out}
+use Rattle.entry.specs.declared.Entry.{Entry}
+use Rattle.entry.specs.declared.Entry.the-variants.{Register}
+use Rattle.inquiry.specs.Input.{Inquiry, entered}
+use Rattle.inquiry.specs.Scan.{Scan, held, entering}
 use Rattle.inquiry.proofs.entered.Statement.{statement}
 use Rattle.inquiry.proofs.entered.Tie as tie
+
+-- a register's place past the last is none
+no-register : (s : Scan) (e : Entry) (place value : ℕ) → e ≡ Register place value → length (s .inquiry .registers) ≤ place → s ≡ entering e s
+unfolding entered
+no-register s e place value p h =
+    let asks : List ℕ → Inquiry = λ l. record { registers = l; budget = s .inquiry .budget; memory = s .inquiry .memory } in
+    rw p
+    (ap (λ (l : List ℕ). record { line = s .line; part = s .part; refused = s .refused; inquiry = asks l }) (sym (set-out (s .inquiry .registers) place value h)))
 
 enum-known-e : tie.Need-enum-known-e
 enum-known-e c = search needs

@@ -10,7 +10,8 @@ wrapping-add-u64-requires : tie.Need-wrapping-add-u64-requires
 wrapping-add-u64-requires c κs = search needs
 
 returns : tie.Need-returns
-returns c = λ memory. ap (λ n. record { line = n; part = []; refused = c .before .args .s .refused; inquiry = held (c .before .args .s) memory .inquiry }) (c .wrapping-add-u64 .ensures)
+returns c = let s = c .before .args .s in
+    λ memory. ap (λ n. record { line = n; part = []; refused = s .refused; inquiry = held s memory .inquiry }) (c .wrapping-add-u64 .ensures)
 
 pub next-line-spec : {M : Type 1} → statement M
 next-line-spec = tie.close (tie.spec wrapping-add-u64-requires returns)

@@ -19,8 +19,10 @@ end-line-requires : tie.Need-end-line-requires
 end-line-requires c κs = search needs
 
 returns-2 : tie.Need-returns-2
-returns-2 c = let a = c .before .before .before .before .before .args in
-    c .end-line .ensures ∙ sym (at-feed (held (a .s) (a .memory .now)) (a .b) (ap not (eq-eqb _ _ (c .before .before .before .if1 .left))) (eq-eqb _ _ (c .before .before .if2 .taken)))
+returns-2 c = let test = c .before .before in
+    let a = test .before .before .before .args in
+    let reads-on = ap not (eq-eqb _ _ (test .before .if1 .left)) in
+    c .end-line .ensures ∙ sym (at-feed (held (a .s) (a .memory .now)) (a .b) reads-on (eq-eqb _ _ (test .if2 .taken)))
 
 element-write-next : tie.Need-element-write-next
 element-write-next c = search needs
@@ -33,8 +35,10 @@ returns-3 c = let start = c .before .before .before .before in
     let a = start .args in
     let full : length (a .s .bytes) ≡ lineBytes = (let g = start .good in search needs) in
     let size = part-size (a .s) full (omega (arith, c .if3 .taken)) in
-    ap (λ part. record { line = a .s .line; part = part; refused = a .s .refused; inquiry = held (a .s) (a .memory .now) .inquiry }) (part-longer (a .s) full (a .b) (c .if3 .taken))
-    ∙ sym (within (held (a .s) (a .memory .now)) (a .b) (ap not (eq-eqb _ _ (c .before .before .if1 .left))) (ne-eqb _ _ (c .before .if2 .left)) (omega (arith, c .if3 .taken)))
+    let reads-on = ap not (eq-eqb _ _ (c .before .before .if1 .left)) in
+    ap (λ part. record { line = a .s .line; part = part; refused = a .s .refused; inquiry = held (a .s) (a .memory .now) .inquiry })
+    (part-longer (a .s) full (a .b) (c .if3 .taken))
+    ∙ sym (within (held (a .s) (a .memory .now)) (a .b) reads-on (ne-eqb _ _ (c .before .if2 .left)) (omega (arith, c .if3 .taken)))
 
 refused-requires : tie.Need-refused-requires
 refused-requires c κs = search needs
@@ -42,9 +46,12 @@ refused-requires c κs = search needs
 returns-4 : tie.Need-returns-4
 returns-4 c = let start = c .before .before .before .before .before in
     let a = start .args in
-    let size = part-full (a .s) (let g = start .good in search needs) (c .before .if3 .left) in
+    let full : length (a .s .bytes) ≡ lineBytes = (let g = start .good in search needs) in
+    let test = c .before in
+    let size = part-full (a .s) full (test .if3 .left) in
+    let reads-on = ap not (eq-eqb _ _ (test .before .before .if1 .left)) in
     c .refused .ensures (a .memory .now)
-    ∙ sym (too-long (held (a .s) (a .memory .now)) (a .b) (ap not (eq-eqb _ _ (c .before .before .before .if1 .left))) (ne-eqb _ _ (c .before .before .if2 .left)) (omega arith))
+    ∙ sym (too-long (held (a .s) (a .memory .now)) (a .b) reads-on (ne-eqb _ _ (test .before .if2 .left)) (omega arith))
 
 pub scan-byte-spec : {M : Type 1} → statement M
 scan-byte-spec =

@@ -4,6 +4,7 @@ use mathlib.Core.Path.{_≡_}
 use borrow.Author.Tests.{eq-eqb, ne-eqb}
 use native.Mathlib.Omega.{arith}
 use lib.ListN.{length, take, length-take}
+use Rattle.entry.specs.Lines.{lineBytes}
 use Rattle.inquiry.proofs.unfit_line.Statement.{statement}
 use Rattle.inquiry.proofs.unfit_line.Tie as tie
 
@@ -13,7 +14,7 @@ returns c = simp (ne-eqb _ _ (c .if1 .taken))
 returns-2 : tie.Need-returns-2
 returns-2 c = let start = c .before .before .before .before in
     let s = start .args .s in
-    let full : length (s .bytes) ≡ 24 = (let g = start .good in search needs) in
+    let full : length (s .bytes) ≡ lineBytes = (let g = start .good in search needs) in
     let some : length (take (s .size) (s .bytes)) ≡ 0 → ⊥ = λ e. omega (arith, length-take (s .size) (s .bytes), c .if2 .taken) in
     simp (eq-eqb _ _ (c .before .before .if1 .left), ne-eqb _ _ some)
 

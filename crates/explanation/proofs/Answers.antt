@@ -67,8 +67,9 @@ module _ (m : Machine) (memory : List ℕ) (budget : ℕ) (list : List ℕ) (roo
   claim-of e =
       let first = both-fit (checkMemory memory) (orElse (checkRegisters widths (values m)) (checkBudget budget)) e in
       let second = both-fit (checkRegisters widths (values m)) (checkBudget budget) (first .1) in
+      let within = budget-within budget (second .1) in
       runs-agree m (placesOf m) memory budget list
-      (every-start m memory 0 0 0 0 budget list (checked-good m memory budget e) (lit< tt) (lit< tt) (lit< tt) (lit< tt) (budget-within budget (second .1)) room)
+      (every-start m memory 0 0 0 0 budget list (checked-good m memory budget e) (lit< tt) (lit< tt) (lit< tt) (lit< tt) within room)
 
   checked : (v : Verdict) → checkState widths (values m) memory budget ≡ v → answered m memory budget ≡ checkedBy v m memory budget
   unfolding answered
@@ -93,7 +94,8 @@ module _ (m : Machine) (memory : List ℕ) (budget : ℕ) (list : List ℕ) (roo
   unfolding explained told run
   explained-is =
       let r = runFrom budget 0 (start m memory) in
-      ap (λ (why : Reason). endLine (r .steps) why ++ registerLines machineRegisters (values (registers (r .state))) ++ rowLines (cyclesOf (placesOf m) memory budget .acted))
+      let acted = cyclesOf (placesOf m) memory budget .acted in
+      ap (λ (why : Reason). endLine (r .steps) why ++ registerLines machineRegisters (values (registers (r .state))) ++ rowLines acted)
       (reason-from budget 0 (start m memory))
 
   -- the answers of both engines, where the check finds the state fit
@@ -114,7 +116,8 @@ module _ (m : Machine) (memory : List ℕ) (budget : ℕ) (list : List ℕ) (roo
       record {
         few = omega arith;
         is = checked Fit e ∙ explained-is
-            ∙ sym (ap (λ (x : emulator.Report). text (x .machine) (x .steps) (take (b .listed) (b .list))) same ∙ ap (text (registers (r .state)) (r .steps)) rows);
+            ∙ sym (ap (λ (x : emulator.Report). text (x .machine) (x .steps) (take (b .listed) (b .list))) same
+            ∙ ap (text (registers (r .state)) (r .steps)) rows);
       }
 
   -- where the emulator ran, the check found the state fit
@@ -155,5 +158,5 @@ module _ (m : Machine) (memory : List ℕ) (budget : ℕ) (list : List ℕ) (roo
   pub ran-by : (after : Machine) (why : Reason) (steps : ℕ) (o : Outcome) (places second rows : List ℕ) → e ≡ emulated.Ran after why steps
       → evaluator.outcomeOf o places second rows ≡ evaluate shippedText (placesOf m) memory budget list → Told m memory budget after steps (listedIn o) rows
   ran-by after why steps o places second rows q r =
-      told-of m memory budget after steps o places second rows
-      (ran-is m memory budget list room after why steps mem (evaluator.outcomeOf o places second rows) (sym (ap (λ (x : Answer). emulator.report m x mem) q) ∙ p) r)
+      let ran = sym (ap (λ (x : Answer). emulator.report m x mem) q) ∙ p in
+      told-of m memory budget after steps o places second rows (ran-is m memory budget list room after why steps mem (evaluator.outcomeOf o places second rows) ran r)

@@ -34,7 +34,8 @@ put-answer-requires c κs = let ran = c .before .before .before in
 returns : tie.Need-returns
 returns c = let both = c .before .before .before .before in
     let a = both .before .before .before .before .before .before .args in
-    let nothing = refused-by (a .m) (a .memory .now) (a .budget) (replicate rowPlaces 0) (lit≤ tt) _ _ (both .run-on .ensures .emulated) _ (c .enum-told .given .1) in
+    let nothing = refused-by (a .m) (a .memory .now) (a .budget) (replicate rowPlaces 0) (lit≤ tt) _ _ (both .run-on .ensures .emulated)
+    _ (c .enum-told .given .1) in
     rw nothing (record { page = refl; whole = refl; within = omega arith })
 
 returns-2 : tie.Need-returns-2

@@ -46,7 +46,8 @@ put-byte-requires-2 c κs = let text = c .before in
     let tab = row .before .before .before in
     let number = tab .before .before in
     let start = number .before .before in
-    omega (arith, digits start, text-size row, start .pre .1, number .put-decimal .ensures .place, tab .put-byte .ensures .place, text .put-text .ensures .place)
+    let room = start .pre .1 in
+    omega (arith, digits start, text-size row, room, number .put-decimal .ensures .place, tab .put-byte .ensures .place, text .put-text .ensures .place)
 
 returns : tie.Need-returns
 unfolding rowLine

@@ -1,3 +1,4 @@
 pub mod Digits
+pub mod ByKind
 pub mod Short
 pub mod Examples

@@ -1,6 +1,6 @@
 -- No fit line is longer than the scanner's buffer.
 -- Assumes nothing.
-use mathlib.Core.Path.{_≡_, refl, sym, ap, _∙_, subst}
+use mathlib.Core.Path.{_≡_, refl, sym, ap, _∙_}
 use mathlib.Core.Bool.{Bool, true, false, _&&_, false≢true}
 use mathlib.Core.List.{List, [], _∷_}
 use Prim.Native.Nat.{ℕ, _+_, _≤_, _<_}
@@ -8,24 +8,21 @@ use native.Mathlib.Omega.{arith}
 use lib.Dec.{eqb, leb, ltb}
 use lib.ListN.{length, getD, length-drop}
 use borrow.Author.Tests.{ltb-true, leb-true, eqb-true}
-use Rattle.word.specs.Word.{fits}
 use Rattle.machine.specs.State.{widths}
 use Rattle.page.specs.Text.{ascii}
-use Rattle.state.specs.Limits.{budgetLimit}
 use Rattle.characters.specs.Characters.{same}
-use Rattle.constants.specs.Constants.{numberAt}
 use Rattle.fields.specs.Fields.{tab, until, after, field, hasFields}
 use Rattle.names.specs.Names.{Named, find}
-use Rattle.characters.specs.declared.Class.the-variants.{Octal, Decimal}
+use Rattle.characters.specs.declared.Class.the-variants.{Octal}
 use Rattle.names.proofs.Entries.{found-later}
-use Rattle.characters.proofs.Cases.{by-case}
 use Rattle.fields.proofs.Lines.{before-length}
 use Rattle.characters.proofs.Strings.{equal}
 use Rattle.characters.proofs.Tests.{and-left, and-right, by-test}
-use Rattle.entry.specs.Lines.{machineRegisters, digitsOf, isDigits, budgetDigits, wordEntry, registerEntry, budgetEntry, said, entry, isUnfit, lineBytes}
+use Rattle.entry.specs.Lines.{machineRegisters, digitsOf, entry, isUnfit, lineBytes}
 use Rattle.entry.specs.declared.Entry.{Entry}
 use Rattle.entry.specs.declared.Entry.the-variants.{Word, Register, Budget, Unfit}
 use Rattle.entry.proofs.Digits.{digits-size, widths-small}
+use Rattle.entry.proofs.ByKind.{by-entry}
 
 -- an entry that is unfit unless n is at most m
 abbrev Within : ℕ → ℕ → Entry → Type 0
@@ -70,59 +67,25 @@ two-fields line t =
     let none : hasFields 2 line ≡ false = rw (e, hasFields) in
     absurd (false≢true (sym none ∙ t)))
 
--- ---- each kind of entry
-
-word-within : (address word : List ℕ) → Within (length address + 1 + length word) lineBytes (wordEntry address word)
-unfolding wordEntry
-word-within address word =
-    by-case (Within (length address + 1 + length word) lineBytes) (isDigits Octal 4 address && isDigits Octal 4 word)
-    (λ t.
-    let first = digits-size Octal 4 address (and-left (isDigits Octal 4 address) (isDigits Octal 4 word) t) in
-    let second = digits-size Octal 4 word (and-right (isDigits Octal 4 address) (isDigits Octal 4 word) t) in
-    omega arith)
-    (λ t. tt)
-
-register-within : (name value : List ℕ) (place : ℕ) → length name ≤ 17
-    → Within (length name + 1 + length value) lineBytes (registerEntry place (getD widths place 0) value)
-unfolding registerEntry
-register-within name value place h =
-    let n = digitsOf (getD widths place 0) in
-    by-case (Within (length name + 1 + length value) lineBytes) (isDigits Octal n value && fits (getD widths place 0) (numberAt 8 value 0 n 0))
-    (λ t.
-    let size = digits-size Octal n value (and-left (isDigits Octal n value) (fits (getD widths place 0) (numberAt 8 value 0 n 0)) t) in
-    omega (arith, widths-small place))
-    (λ t. tt)
-
-budget-within : (name value : List ℕ) → length name ≡ 6 → Within (length name + 1 + length value) lineBytes (budgetEntry value)
-unfolding budgetEntry
-budget-within name value h =
-    let few = ltb 0 (length value) && leb (length value) budgetDigits in
-    let digits = isDigits Decimal (length value) value in
-    let small = leb (numberAt 10 value 0 (length value) 0) budgetLimit in
-    by-case (Within (length name + 1 + length value) lineBytes) (few && digits && small)
-    (λ t.
-    let some = and-left few digits (and-left (few && digits) small t) in
-    let most = leb-true (length value) budgetDigits (and-right (ltb 0 (length value)) (leb (length value) budgetDigits) some) in
-    omega arith)
-    (λ t. tt)
-
-said-within : (name value : List ℕ) → Within (length name + 1 + length value) lineBytes (said name value)
-unfolding said
-said-within name value =
-    let place = find name machineRegisters in
-    by-case (Within (length name + 1 + length value) lineBytes) (same name (ascii "budget"))
-    (λ t. budget-within name value (ap length (equal name (ascii "budget") t)))
-    (λ t.
-    by-case (Within (length name + 1 + length value) lineBytes) (ltb place (length machineRegisters))
-    (λ u. register-within name value place (found-within 17 name machineRegisters refl (ltb-true place (length machineRegisters) u)))
-    (λ u. word-within name value))
-
+-- no register's name has more than 17 bytes (INTERRUPT.REQUEST), and no value beside it more than 6
 entry-within : (line : List ℕ) → Within (length line) lineBytes (entry line)
-unfolding entry
 entry-within line =
-    by-case (Within (length line) lineBytes) (hasFields 2 line)
-    (λ t. subst (λ (n : ℕ). Within n lineBytes (said (field 0 line) (field 1 line))) (sym (two-fields line t)) (said-within (field 0 line) (field 1 line)))
-    (λ t. tt)
+    let name = field 0 line in
+    let value = field 1 line in
+    let place = find name machineRegisters in
+    by-entry (Within (length line) lineBytes) tt line (λ t.
+    let size = two-fields line t in
+    record {
+      word = λ a w. omega (arith, size, digits-size Octal 4 name a, digits-size Octal 4 value w);
+      register = λ h d f. omega (
+        arith,
+        size,
+        found-within 17 name machineRegisters refl h,
+        widths-small place,
+        digits-size Octal (digitsOf (getD widths place 0)) value d,
+      );
+      budget = λ h few small. omega (arith, size, few, ap length (equal name (ascii "budget") h));
+    })
 
 -- the scanner need not keep more of a line
 pub long-unfit : (line : List ℕ) → lineBytes < length line → isUnfit (entry line) ≡ true

@@ -9,8 +9,7 @@ use native.Mathlib.Omega.{arith}
 use lib.Dec.{eqb, lit≤}
 use lib.ListN.{length, getD}
 use borrow.Author.Tests.{eqb-true}
-use Rattle.word.specs.Word.{widest}
-use Rattle.machine.specs.State.{widths}
+use Rattle.machine.specs.State.{lacBits, widths}
 use Rattle.characters.specs.Characters.{runEnd}
 use Rattle.constants.specs.Constants.{numberAt}
 use Rattle.characters.specs.declared.Class.{Class}
@@ -31,12 +30,12 @@ pub octal-lt : (n : ℕ) (field : List ℕ) → isDigits Octal n field ≡ true 
 octal-lt n field t =
     rw (zero-add (3 * n)) at (value-lt Octal 3 octal-small field n 0 0 0 (omega (arith, digits-run Octal n field t)) (omega arith))
 
--- no register is wider than 16 bits
-pub widths-small : (k : ℕ) → getD widths k 0 ≤ widest
-widths-small zero = lit≤ tt
-widths-small (suc zero) = lit≤ tt
-widths-small (suc (suc zero)) = lit≤ tt
-widths-small (suc (suc (suc zero))) = lit≤ tt
-widths-small (suc (suc (suc (suc zero)))) = lit≤ tt
-widths-small (suc (suc (suc (suc (suc zero))))) = lit≤ tt
-widths-small (suc (suc (suc (suc (suc (suc k)))))) = lit≤ tt
+-- no register is wider than LAC
+pub width-le : (k : ℕ) → getD widths k 0 ≤ lacBits
+width-le zero = lit≤ tt
+width-le (suc zero) = lit≤ tt
+width-le (suc (suc zero)) = lit≤ tt
+width-le (suc (suc (suc zero))) = lit≤ tt
+width-le (suc (suc (suc (suc zero)))) = lit≤ tt
+width-le (suc (suc (suc (suc (suc zero))))) = lit≤ tt
+width-le (suc (suc (suc (suc (suc (suc k)))))) = lit≤ tt

@@ -3,7 +3,7 @@
 use mathlib.Core.Path.{_≡_, refl, sym, ap, _∙_}
 use mathlib.Core.Bool.{Bool, true, false, _&&_, false≢true}
 use mathlib.Core.List.{List, [], _∷_}
-use Prim.Native.Nat.{ℕ, _+_, _≤_, _<_}
+use Prim.Native.Nat.{ℕ, suc, _+_, _≤_, _<_}
 use native.Mathlib.Omega.{arith}
 use lib.Dec.{eqb, leb, ltb}
 use lib.ListN.{length, getD, length-drop}
@@ -14,14 +14,13 @@ use Rattle.characters.specs.Characters.{same}
 use Rattle.fields.specs.Fields.{tab, until, after, field, hasFields}
 use Rattle.names.specs.Names.{Named, find}
 use Rattle.characters.specs.declared.Class.the-variants.{Octal}
-use Rattle.names.proofs.Entries.{found-later}
 use Rattle.fields.proofs.Lines.{before-length}
 use Rattle.characters.proofs.Strings.{equal}
 use Rattle.characters.proofs.Tests.{and-left, and-right, by-test}
 use Rattle.entry.specs.Lines.{machineRegisters, digitsOf, entry, isUnfit, lineBytes}
 use Rattle.entry.specs.declared.Entry.{Entry}
 use Rattle.entry.specs.declared.Entry.the-variants.{Word, Register, Budget, Unfit}
-use Rattle.entry.proofs.Digits.{digits-size, widths-small}
+use Rattle.entry.proofs.Digits.{digits-size, width-le}
 use Rattle.entry.proofs.ByKind.{by-entry}
 
 -- an entry that is unfit unless n is at most m
@@ -44,12 +43,13 @@ allWithin n (e ∷ table) = leb (length (e .name)) n && allWithin n table
 
 -- a name that is found has no more either
 found-within : (n : ℕ) (name : List ℕ) (table : List Named) → allWithin n table ≡ true → find name table < length table → length name ≤ n
+unfolding find
 found-within n name [] all h = absurd (omega arith)
 found-within n name (e ∷ table) all h =
     by-test (same (e .name) name)
     (λ t. rw (ap length (equal (e .name) name t)) at (leb-true (length (e .name)) n (and-left (leb (length (e .name)) n) (allWithin n table) all)))
     (λ t.
-    let later = found-later name e table t in
+    let later : find name (e ∷ table) ≡ suc (find name table) = rw (t, find) in
     found-within n name table (and-right (leb (length (e .name)) n) (allWithin n table) all) (omega arith))
 
 -- two fields and the TAB between them
@@ -81,7 +81,7 @@ entry-within line =
         arith,
         size,
         found-within 17 name machineRegisters refl h,
-        widths-small place,
+        width-le place,
         digits-size Octal (digitsOf (getD widths place 0)) value d,
       );
       budget = λ h few small. omega (arith, size, few, ap length (equal name (ascii "budget") h));

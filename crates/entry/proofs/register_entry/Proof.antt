@@ -5,11 +5,10 @@ use Prim.Native.Nat.{_^_, _≤_, _<_}
 use lib.ListN.{getD}
 use lib.Pow.{pow-mono}
 use borrow.Author.Tests.{ltb-true}
-use Rattle.word.specs.Word.{widest}
-use Rattle.machine.specs.State.{widths}
+use Rattle.machine.specs.State.{lacBits, widths}
 use Rattle.characters.specs.declared.Class.the-variants.{Octal}
 use Rattle.entry.specs.Lines.{digitsOf, registerEntry}
-use Rattle.entry.proofs.Digits.{digits-size, widths-small}
+use Rattle.entry.proofs.Digits.{digits-size, width-le}
 use Rattle.entry.proofs.register_entry.Statement.{statement}
 use Rattle.entry.proofs.register_entry.Tie as tie
 
@@ -20,7 +19,7 @@ array-read-width : tie.Need-array-read-width
 array-read-width c = search needs
 
 add-n : tie.Need-add-n
-add-n c = omega (arith, widths-small (c .before .args .place))
+add-n c = omega (arith, width-le (c .before .args .place))
 
 is-digits-requires : tie.Need-is-digits-requires
 is-digits-requires c κs = search needs
@@ -28,15 +27,15 @@ is-digits-requires c κs = search needs
 digits-value-requires : tie.Need-digits-value-requires
 digits-value-requires c κs = let a = c .before .before .before .args in
     let t = rw (c .before .is-digits .ensures) at (c .if1 .taken) in
-    omega (arith, widths-small (a .place), digits-size Octal (digitsOf (getD widths (a .place) 0)) (a .value .now) t)
+    omega (arith, width-le (a .place), digits-size Octal (digitsOf (getD widths (a .place) 0)) (a .value .now) t)
 
 is-narrow-requires : tie.Need-is-narrow-requires
-is-narrow-requires c κs = omega (arith, widths-small (c .before .before .before .before .args .place))
+is-narrow-requires c κs = omega (arith, width-le (c .before .before .before .before .args .place))
 
 cast-t15 : tie.Need-cast-t15
 cast-t15 c = let place = c .before .before .before .before .before .before .args .place in
     let narrow : c .before .before .digits-value .result < 2 ^ getD widths place 0 = ltb-true _ _ (rw (c .before .is-narrow .ensures) at (c .if2 .taken)) in
-    let most : 2 ^ getD widths place 0 ≤ 2 ^ widest = pow-mono {i = getD widths place 0} {j = widest} (widths-small place) in
+    let most : 2 ^ getD widths place 0 ≤ 2 ^ lacBits = pow-mono {i = getD widths place 0} {j = lacBits} (width-le place) in
     omega arith
 
 returns : tie.Need-returns

@@ -1,14 +1,24 @@
 -- `entry::register_place`: the names one after the other.
 use borrow.Author.Needs.{needs}
 use mathlib.Core.Path.{_≡_, refl, sym, ap, _∙_}
-use mathlib.Core.List.{List}
+use mathlib.Core.Bool.{true, false}
+use mathlib.Core.List.{List, _∷_}
 use Prim.Native.Nat.{ℕ, suc}
 use lib.ListN.{drop}
-use Rattle.names.specs.Names.{find}
-use Rattle.names.proofs.Entries.{found-here, found-later}
+use Rattle.characters.specs.Characters.{same}
+use Rattle.names.specs.Names.{Named, find}
 use Rattle.entry.specs.Lines.{machineRegisters}
 use Rattle.entry.proofs.register_place.Statement.{statement}
 use Rattle.entry.proofs.register_place.Tie as tie
+
+-- the search by one name more: it is found there, or goes on
+found-here : (name : List ℕ) (e : Named) (table : List Named) → same (e .name) name ≡ true → find name (e ∷ table) ≡ 0
+unfolding find
+found-here name e table t = rw (t, find)
+
+found-later : (name : List ℕ) (e : Named) (table : List Named) → same (e .name) name ≡ false → find name (e ∷ table) ≡ suc (find name table)
+unfolding find
+found-later name e table t = rw (t, find)
 
 -- past1 to past6: the name is none of the first so many registers', and what the rest of the search comes to is counted from there
 abbrev name1 : tie.Else1 → List ℕ

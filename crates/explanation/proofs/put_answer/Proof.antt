@@ -40,12 +40,12 @@ returns : tie.Need-returns
 returns c = let last = c .before .before .before in
     let end = last .before .before in
     let start = end .before .before .before in
-    let title = end .put-end-line .ensures in
+    let line = end .put-end-line .ensures in
     let registers = last .put-registers .ensures in
     let rows = c .put-rows .ensures in
     written-page pageBytes _ (search needs)
-    (omega (arith, start .pre, rows .room, registers .place, title .place, last-line start, registers-size (start .args .m)))
-    (written-then _ _ (written-then _ _ title registers) (rows .written))
+    (omega (arith, start .pre, rows .room, registers .place, line .place, last-line start, registers-size (start .args .m)))
+    (written-then _ _ (written-then _ _ line registers) (rows .written))
 
 pub put-answer-spec : {M : Type 1} → statement M
 put-answer-spec =

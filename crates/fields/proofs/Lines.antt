@@ -5,6 +5,7 @@ use mathlib.Core.Bool.{Bool, true, false, not, _&&_}
 use mathlib.Core.List.{List, [], _∷_}
 use Prim.Native.Nat.{ℕ, zero, suc, _+_, _-_, _≤_, _<_}
 use native.Mathlib.Nat.{suc-add}
+use native.Mathlib.Numerals.{sub-one}
 use native.Mathlib.Omega.{arith}
 use lib.Dec.{eqb, ltb, leb·suc-suc}
 use lib.ListN.{length, take, drop, length-take}
@@ -45,7 +46,7 @@ unfolding lines run
 nothing x = refl
 
 -- a text's lines, from its first one
-pub lines-split : (b : ℕ) (s : List ℕ) → lines (b ∷ s) ≡ firstLine (b ∷ s) ∷ lines (after lineFeed (b ∷ s))
+lines-split : (b : ℕ) (s : List ℕ) → lines (b ∷ s) ≡ firstLine (b ∷ s) ∷ lines (after lineFeed (b ∷ s))
 lines-split b [] = by-test (eqb b lineFeed) (λ e. ended b [] e) (λ e. goes-on b [] e ∙ alone b e)
   where
     alone : (x : ℕ) → eqb x lineFeed ≡ false → push x (lines []) ≡ firstLine (x ∷ []) ∷ lines (after lineFeed (x ∷ []))
@@ -65,6 +66,7 @@ unfolding lines
 no-line [] h = refl
 no-line (b ∷ s) h = absurd (omega arith)
 
+-- how long the part before a byte is
 pub before-length : (b : ℕ) (s : List ℕ) → length (before b s) ≡ until b s
 before-length b s = length-take (until b s) s ∙ omega (arith, run-le (Other b) s)
 
@@ -72,10 +74,7 @@ before-length b s = length-take (until b s) s ∙ omega (arith, run-le (Other b)
 pub next-field : (n : ℕ) (s : List ℕ) → 0 < n → field n s ≡ field (n - 1) (after tab s)
 unfolding field
 next-field zero s h = absurd (omega arith)
-next-field (suc n) s h = ap (λ (k : ℕ). field k (after tab s)) n-is
-  where
-    n-is : n ≡ suc n - 1
-    n-is = omega arith
+next-field (suc n) s h = ap (λ (k : ℕ). field k (after tab s)) (sym (sub-one (suc n)))
 
 pub first-field : (n : ℕ) (s : List ℕ) → n ≤ 0 → field n s ≡ before tab s
 unfolding field
@@ -87,10 +86,7 @@ pub more-fields : (n : ℕ) (s : List ℕ) → 1 < n → ltb 0 (until tab s) && 
 unfolding hasFields
 more-fields zero s h e = absurd (omega arith)
 more-fields (suc zero) s h e = absurd (omega arith)
-more-fields (suc (suc n)) s h e = rw (e, hasFields) (ap (λ (k : ℕ). hasFields k (after tab s)) n-is)
-  where
-    n-is : suc n ≡ suc (suc n) - 1
-    n-is = omega arith
+more-fields (suc (suc n)) s h e = rw (e, hasFields) (ap (λ (k : ℕ). hasFields k (after tab s)) (sym (sub-one (suc (suc n)))))
 
 pub few-fields : (n : ℕ) (s : List ℕ) → 1 < n → ltb 0 (until tab s) && ltb (until tab s) (length s) ≡ false → hasFields n s ≡ false
 unfolding hasFields

@@ -6,7 +6,7 @@ use mathlib.Core.Bool.{true, false}
 use mathlib.Core.List.{List, [], _∷_, _++_}
 use Prim.Native.Nat.{ℕ, zero, suc, _+_, _-_, _≤_, _<_}
 use native.Mathlib.Nat.{zero-add, sub-zero}
-use native.Mathlib.Numerals.{add-one}
+use native.Mathlib.Numerals.{add-one, sub-one}
 use native.Mathlib.Omega.{arith}
 use lib.ListN.{length, take, drop, set}
 use lib.Seq.{getD-set-same, getD-set-other}
@@ -15,25 +15,23 @@ use Rattle.names.specs.Names.{Named, find, entryAt, entriesFrom, entries
 use Rattle.names.specs.declared.Dictionary.{Dictionary}
 
 module _ (text : List ℕ) (d : Dictionary) where
-  -- one entry more
-  pub next-entry : (i n : ℕ) → 0 < n → entriesFrom text d i n ≡ entryAt text d i ∷ entriesFrom text d (i + 1) (n - 1)
+  -- an entry and those after it, and none
+  next-entry : (i n : ℕ) → 0 < n → entriesFrom text d i n ≡ entryAt text d i ∷ entriesFrom text d (i + 1) (n - 1)
   unfolding entriesFrom
   next-entry i zero h = absurd (omega arith)
-  next-entry i (suc n) h = rw (add-one i) (ap (λ (k : ℕ). entryAt text d i ∷ entriesFrom text d (suc i) k) n-is)
-    where
-      n-is : n ≡ suc n - 1
-      n-is = omega arith
+  next-entry i (suc n) h = rw (add-one i) (ap (λ (k : ℕ). entryAt text d i ∷ entriesFrom text d (suc i) k) (sym (sub-one (suc n))))
 
-  pub no-entry : (i n : ℕ) → n ≤ 0 → entriesFrom text d i n ≡ []
+  no-entry : (i n : ℕ) → n ≤ 0 → entriesFrom text d i n ≡ []
   unfolding entriesFrom
   no-entry i zero h = refl
   no-entry i (suc n) h = absurd (omega arith)
 
-pub found-here : (s : List ℕ) (e : Named) (es : List Named) → same (e .name) s ≡ true → find s (e ∷ es) ≡ 0
+-- the name is the first entry's, or another
+found-here : (s : List ℕ) (e : Named) (es : List Named) → same (e .name) s ≡ true → find s (e ∷ es) ≡ 0
 unfolding find
 found-here s e es t = rw (t, find)
 
-pub found-later : (s : List ℕ) (e : Named) (es : List Named) → same (e .name) s ≡ false → find s (e ∷ es) ≡ suc (find s es)
+found-later : (s : List ℕ) (e : Named) (es : List Named) → same (e .name) s ≡ false → find s (e ∷ es) ≡ suc (find s es)
 unfolding find
 found-later s e es t = rw (t, find)
 

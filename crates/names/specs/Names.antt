@@ -1,4 +1,4 @@
--- Names and labels: "1 to 20 letters, digits or dots, a letter first, case kept". A dictionary holds the places of names in a text, with a
+-- Names and labels, "case kept". A dictionary holds the places of names in a text, with a
 -- number for each: a register's width, 0 for a label.
 -- Assumes nothing.
 use Prim.Native.Nat.{ℕ, zero, suc, _+_}
@@ -14,9 +14,11 @@ use Rattle.names.specs.declared.Dictionary.{Dictionary}
 abbrev pub longestName : ℕ
 longestName = 20
 
+-- "1 to 20 letters, digits or dots, a letter first"
 unfoldable pub isName : List ℕ → Bool
 isName s = isLetter (getD s 0 0) && eqb (runEnd Word s 0) (length s) && leb (length s) longestName
 
+-- a name with its number
 pub record Named : Type 0 where
   pub name : List ℕ
   pub number : ℕ

@@ -30,14 +30,16 @@ loop-less c = search needs
 
 loop-again : tie.Need-loop-again Inv-loop μ-loop
 loop-again c =
-    c .before .before .loop .inv ∙ next-field (c .before .before .loop .i) (c .before .before .loop .rest .now) (c .before .loop-test .taken) ∙ ap (field (c .before .before .loop .i - 1)) (sym (c .part-after .ensures))
+    let l = c .before .before .loop in
+    l .inv ∙ next-field (l .i) (l .rest .now) (c .before .loop-test .taken) ∙ ap (field (l .i - 1)) (sym (c .part-after .ensures))
 
 part-before-requires : tie.Need-part-before-requires Inv-loop μ-loop
 part-before-requires c κs = search needs
 
 returns : tie.Need-returns Inv-loop μ-loop
 returns c =
-    c .part-before .ensures ∙ sym (c .before .before .loop .inv ∙ first-field (c .before .before .loop .i) (c .before .before .loop .rest .now) (c .before .loop-test .left))
+    let l = c .before .before .loop in
+    c .part-before .ensures ∙ sym (l .inv ∙ first-field (l .i) (l .rest .now) (c .before .loop-test .left))
 
 pub field-of-spec : {M : Type 1} → statement M
 field-of-spec =

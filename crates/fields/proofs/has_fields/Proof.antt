@@ -15,6 +15,7 @@ use borrow.Author.Needs.{needs}
 use Rattle.fields.proofs.has_fields.Statement.{statement}
 use Rattle.fields.proofs.has_fields.Tie as tie
 
+-- a field's end, as the code finds it
 ends : (s : List ℕ) (r : ℕ) → r ≡ runEnd (Other tab) s 0 → r ≡ until tab s
 ends s r e = e ∙ from-start (Other tab) s
 
@@ -50,7 +51,9 @@ loop-less c = search needs
 loop-again : tie.Need-loop-again Inv-loop μ-loop
 loop-again c =
     let l = c .before .before .before .before .loop in
-    (omega arith, l .inv .1 ∙ more-fields (l .left) (l .rest .now) (c .before .before .before .loop-test .taken) (rw (ends (l .rest .now) (c .before .before .run-end .result) (c .before .before .run-end .ensures)) at (c .before .if2 .taken)) ∙ ap (hasFields (l .left - 1)) (sym (c .part-after .ensures)))
+    let end = c .before .before .run-end in
+    let more = more-fields (l .left) (l .rest .now) (c .before .before .before .loop-test .taken) (rw (ends (l .rest .now) (end .result) (end .ensures)) at (c .before .if2 .taken)) in
+    (omega arith, l .inv .1 ∙ more ∙ ap (hasFields (l .left - 1)) (sym (c .part-after .ensures)))
 
 returns-2 : tie.Need-returns-2 Inv-loop μ-loop
 returns-2 c =

@@ -14,11 +14,14 @@ run-end-requires c κs = search needs
 
 slice-aggregate-result : tie.Need-slice-aggregate-result
 slice-aggregate-result c =
-    sym (length-take-le (c .before .run-end .result) (c .before .before .before .args .s .now) (before-end (Other (c .before .before .before .args .b)) (c .before .before .before .args .s .now) 0 (c .before .run-end .result) (c .before .run-end .ensures) (search needs)))
+    let a = c .before .before .before .args in
+    let end = c .before .run-end in
+    sym (length-take-le (end .result) (a .s .now) (before-end (Other (a .b)) (a .s .now) 0 (end .result) (end .ensures) (search needs)))
 
 returns : tie.Need-returns
 returns c =
-    ap (λ (k : ℕ). take k (c .before .before .before .args .s .now)) (c .before .run-end .ensures ∙ from-start (Other (c .before .before .before .args .b)) (c .before .before .before .args .s .now))
+    let a = c .before .before .before .args in
+    ap (λ (k : ℕ). take k (a .s .now)) (c .before .run-end .ensures ∙ from-start (Other (a .b)) (a .s .now))
 
 pub part-before-spec : {M : Type 1} → statement M
 part-before-spec = tie.close (tie.spec run-end-requires slice-aggregate-result returns)

@@ -17,7 +17,8 @@ abbrev μ-loop : tie.MeasureT-loop
 
 loop-holds : tie.Need-loop-holds Inv-loop μ-loop
 loop-holds c =
-    start (c .before .before .before .before .args .name .now) (c .before .before .before .before .args .text .now) (c .before .before .before .before .args .d)
+    let a = c .before .before .before .before .args in
+    start (a .name .now) (a .text .now) (a .d)
 
 slot-requires : tie.Need-slot-requires Inv-loop μ-loop
 slot-requires c κs = search needs
@@ -40,8 +41,9 @@ is-same-requires c κs = search needs
 returns : tie.Need-returns Inv-loop μ-loop
 returns c =
     let a = c .before .before .before .before .before .before .before .before .before .before .before .before .args in
-    let i = c .before .before .before .before .before .before .before .loop .i in
-    sym (c .before .before .before .before .before .before .before .loop .inv ∙ here (a .name .now) (a .text .now) (a .d) i (c .before .before .before .before .before .if1 .taken) (rw (← c .before .before .before .before .slot .ensures, ← c .before .before .before .slot2 .ensures, ← c .before .before .part .ensures, ← c .before .is-same .ensures) (c .if2 .taken)))
+    let l = c .before .before .before .before .before .before .before .loop in
+    sym (l .inv ∙ here (a .name .now) (a .text .now) (a .d) (l .i) (c .before .before .before .before .before .if1 .taken)
+    (rw (← c .before .before .before .before .slot .ensures, ← c .before .before .before .slot2 .ensures, ← c .before .before .part .ensures, ← c .before .is-same .ensures) (c .if2 .taken)))
 
 add-i : tie.Need-add-i Inv-loop μ-loop
 add-i c = search needs
@@ -52,13 +54,15 @@ loop-less c = search needs
 loop-again : tie.Need-loop-again Inv-loop μ-loop
 loop-again c =
     let a = c .before .before .before .before .before .before .before .before .before .before .before .before .args in
-    let i = c .before .before .before .before .before .before .before .loop .i in
-    c .before .before .before .before .before .before .before .loop .inv ∙ later (a .name .now) (a .text .now) (a .d) i (c .before .before .before .before .before .if1 .taken) (rw (← c .before .before .before .before .slot .ensures, ← c .before .before .before .slot2 .ensures, ← c .before .before .part .ensures, ← c .before .is-same .ensures) (c .if2 .left))
+    let l = c .before .before .before .before .before .before .before .loop in
+    l .inv ∙ later (a .name .now) (a .text .now) (a .d) (l .i) (c .before .before .before .before .before .if1 .taken)
+    (rw (← c .before .before .before .before .slot .ensures, ← c .before .before .before .slot2 .ensures, ← c .before .before .part .ensures, ← c .before .is-same .ensures) (c .if2 .left))
 
 returns-2 : tie.Need-returns-2 Inv-loop μ-loop
 returns-2 c =
     let a = c .before .before .before .before .before .before .before .args in
-    sym (c .before .before .loop .inv ∙ nowhere (a .name .now) (a .text .now) (a .d) (c .before .before .loop .i) (c .if1 .left))
+    let l = c .before .before .loop in
+    sym (l .inv ∙ nowhere (a .name .now) (a .text .now) (a .d) (l .i) (c .if1 .left))
 
 pub place-of-spec : {M : Type 1} → statement M
 place-of-spec =

@@ -3,7 +3,7 @@
 use mathlib.Core.Path.{_≡_, refl, sym, ap, _∙_}
 use mathlib.Core.List.{List, []}
 use Prim.Native.Nat.{ℕ, zero, suc, _+_, _<_}
-use native.Mathlib.Nat.{add-zero}
+use native.Mathlib.Nat.{add-zero, zero-add, add-suc, suc-add}
 use native.Mathlib.Omega.{arith}
 use lib.ListN.{length, getD}
 use Rattle.names.specs.Names.{Named, entryAt, entriesFrom, entries}
@@ -23,13 +23,7 @@ module _ (text : List ℕ) (d : Dictionary) where
   unfolding entriesFrom
   entry-from zero i j z h = absurd (omega arith)
   entry-from (suc n) i zero z h = ap (entryAt text d) (sym (add-zero i))
-  entry-from (suc n) i (suc j) z h = entry-from n (suc i) j z (omega arith) ∙ ap (entryAt text d) (shift i j)
-    where
-      shift : (x y : ℕ) → suc x + y ≡ x + suc y
-      shift x y = omega arith
+  entry-from (suc n) i (suc j) z h = entry-from n (suc i) j z (omega arith) ∙ ap (entryAt text d) (suc-add i j ∙ sym (add-suc i j))
 
   pub width-is : (r : ℕ) → r < d .count → widthIn (entries text d) r ≡ getD (d .numbers) r 0
-  width-is r h = ap (λ (e : Named). e .number) (entry-from (d .count) 0 r (record { name = []; number = 0 }) h) ∙ ap (λ (k : ℕ). getD (d .numbers) k 0) (zero-first r)
-    where
-      zero-first : (x : ℕ) → 0 + x ≡ x
-      zero-first x = omega arith
+  width-is r h = ap (λ (e : Named). e .number) (entry-from (d .count) 0 r (record { name = []; number = 0 }) h) ∙ ap (λ (k : ℕ). getD (d .numbers) k 0) (zero-add r)

@@ -1,42 +1,61 @@
 -- Whatever is read ends after its start and within the field; a register that is read is one of the list, and bit numbers are below its width.
 -- Assumes nothing.
 use mathlib.Core.Path.{_≡_, refl, sym, ap, subst, _∙_}
-use mathlib.Core.Bool.{Bool, true, false, _&&_, _||_}
+use mathlib.Core.Bool.{Bool, true, false, false≢true, _&&_, _||_}
 use mathlib.Core.List.{List}
 use Prim.Native.Nat.{ℕ, _+_, _-_, _≤_, _<_}
 use native.Mathlib.Omega.{arith}
 use lib.Dec.{eqb, leb, ltb}
-use lib.ListN.{length, getD}
-use borrow.Author.Tests.{ltb-true, leb-true, eqb-true}
-use Rattle.characters.specs.Characters.{isDigit, isLetter, isWord, runEnd}
+use lib.ListN.{length, getD, drop-of-length-le, List·getD-eq-default}
+use lib.Seq.{take-nil}
+use borrow.Author.Tests.{ltb-true, ltb-false, leb-true, eqb-true}
+use Rattle.characters.specs.Characters.{isDigit, isLetter, isWord, runEnd, same}
 use Rattle.constants.specs.Constants.{numberAt, isPlain, largest, decimalAt, markedAt, ofDecimal, constantAt, binaryDigits, octalDigits}
 use Rattle.names.specs.Names.{Named, find}
 use Rattle.characters.specs.declared.Class.{Class}
 use Rattle.characters.specs.declared.Class.the-variants.{Space, Word, Binary, Octal, Decimal}
 use Rattle.constants.specs.declared.Number.{Number}
 use Rattle.constants.specs.declared.Number.the-variants.{Plain, Unread}
-use Rattle.constants.specs.declared.Constant.the-variants.{Found}
-use Rattle.characters.proofs.Runs.{onward, within}
-use Rattle.constants.proofs.Digits.{marked, unmarked, plain, too-large, not-plain}
+use Rattle.constants.specs.declared.Constant.{Constant}
+use Rattle.constants.specs.declared.Constant.the-variants.{Found, Missing}
+use Rattle.characters.proofs.Runs.{onward, within, run-onward}
+use Rattle.characters.proofs.Cases.{by-case}
 use Rattle.characters.proofs.Tests.{by-test, and-left, and-right}
+use Rattle.constants.proofs.Digits.{digits-between}
 use Rattle.bit_parts.specs.declared.Span.{Span}
 use Rattle.bit_parts.specs.declared.Span.the-variants.{Bits, Bad}
+use Rattle.bit_parts.specs.declared.Reference.{Reference}
 use Rattle.bit_parts.specs.declared.Reference.the-variants.{Whole, Part, Unknown}
 use Rattle.operators.specs.declared.Entry.{Entry}
 use Rattle.operators.specs.Operators.{table, noEntry, entryIn}
-use Rattle.operator_names.specs.OperatorNames.{findIn, operatorRow}
+use Rattle.operator_names.specs.OperatorNames.{operatorNames, findIn, operatorRow}
 use Rattle.tokens.specs.Tokens.{skip, next, slice, tokenEnd, operatorAt, operatorEnd}
 use Rattle.bit_parts.specs.References.{secondBit, firstBit, spanAt, partOf, widthIn, registerAt, referenceAt}
-use Rattle.tokens.proofs.Tokens.{present, run-onward, token-inside}
+use Rattle.tokens.proofs.Tokens.{present, token-inside}
 
--- from `at` on, and within the field
+-- after `at`, and within the field
 abbrev pub Past : List ℕ → ℕ → ℕ → Type 0
 Past s at p = (at < p) × (p ≤ length s)
 
-never : {P : Type 0} → _≡_ {A = ℕ} 0 1 → P
-never e = absurd (omega arith)
+-- the same of what is read, if something is
+abbrev pub NumberPast : List ℕ → ℕ → Number → Type 0
+NumberPast s at (Plain v p) = Past s at p
+NumberPast s at Unread = Unit {0}
 
--- what is of a class that words have
+abbrev pub ConstantPast : List ℕ → ℕ → Constant → Type 0
+ConstantPast s at (Found v w p) = Past s at p
+ConstantPast s at Missing = Unit {0}
+
+abbrev SpanPast : List ℕ → ℕ → Span → Type 0
+SpanPast s at (Bits a b p) = Past s at p
+SpanPast s at Bad = Unit {0}
+
+abbrev pub ReferencePast : List ℕ → ℕ → Reference → Type 0
+ReferencePast s at (Whole r w p) = Past s at p
+ReferencePast s at (Part r w a b p) = Past s at p
+ReferencePast s at Unknown = Unit {0}
+
+-- words: digits and letters begin one, and it ends past its start
 word-of-digit : (b : ℕ) → isDigit b ≡ true → isWord b ≡ true
 word-of-digit b e = rw e (or-true (isLetter b))
   where
@@ -47,267 +66,154 @@ word-of-digit b e = rw e (or-true (isLetter b))
 pub word-of-letter : (b : ℕ) → isLetter b ≡ true → isWord b ≡ true
 word-of-letter b e = rw e
 
-digit-present : (s : List ℕ) (at : ℕ) → isDigit (getD s at 0) ≡ true → at < length s
-digit-present s at e = present s at (getD s at 0) refl (omega (arith, leb-true 48 (getD s at 0) (and-left (leb 48 (getD s at 0)) (leb (getD s at 0) 57) e)))
-
-pub letter-present : (s : List ℕ) (at : ℕ) → isWord (getD s at 0) ≡ true → at < length s
-letter-present s at e =
+word-past : (s : List ℕ) (at : ℕ) → isWord (getD s at 0) ≡ true → Past s at (runEnd Word s at)
+word-past s at e =
     by-test (ltb at (length s))
-    (λ t. ltb-true at (length s) t)
-    (λ t. never (let z : getD s at 0 ≡ 0 = lib.ListN.List·getD-eq-default s 0 (borrow.Author.Tests.ltb-false at (length s) t) in
-    let u : isWord 0 ≡ true = rw z at e in
-    absurd (mathlib.Core.Bool.false≢true u)))
+    (λ t.
+    let h : at < length s = ltb-true at (length s) t in
+    (run-onward Word s at h e, within Word s at (omega arith)))
+    (λ t. absurd (false≢true (sym (ap isWord (List·getD-eq-default s 0 (ltb-false at (length s) t))) ∙ e)))
+
+pub letters-past : (s : List ℕ) (at r : ℕ) → isLetter (getD s at 0) ≡ true → r ≡ runEnd Word s at → Past s at r
+letters-past s at r l e = subst (Past s at) (sym e) (word-past s at (word-of-letter (getD s at 0) l))
 
 -- decimals
-pub decimal-past : (s : List ℕ) (at v p : ℕ) → decimalAt s at ≡ Plain v p → Past s at p
-decimal-past s at v p e =
-    by-test (isDigit (getD s at 0) && isPlain (getD s at 0) at (runEnd Decimal s at) (runEnd Word s at))
+number-past : (s : List ℕ) (at : ℕ) → NumberPast s at (decimalAt s at)
+unfolding decimalAt
+number-past s at =
+    let plain = isPlain (getD s at 0) at (runEnd Decimal s at) (runEnd Word s at) in
+    by-case (NumberPast s at) (isDigit (getD s at 0) && plain)
     (λ t.
-    let d : isDigit (getD s at 0) ≡ true = and-left (isDigit (getD s at 0)) (isPlain (getD s at 0) at (runEnd Decimal s at) (runEnd Word s at)) t in
-    let h : at < length s = digit-present s at d in
-    by-test (leb (numberAt 10 s at (runEnd Word s at - at) 0) largest)
-    (λ u.
-    let q : p ≡ runEnd Word s at = cc (plain s at t u) in
-    (omega (arith, run-onward Word s at h (word-of-digit (getD s at 0) d)), omega (arith, within Word s at (omega arith))))
-    (λ u. never (cc (too-large s at t u))))
-    (λ t. never (cc (not-plain s at t)))
+    by-case (NumberPast s at) (leb (numberAt 10 s at (runEnd Word s at - at) 0) largest)
+    (λ u. word-past s at (word-of-digit (getD s at 0) (and-left (isDigit (getD s at 0)) plain t)))
+    (λ u. tt))
+    (λ t. tt)
 
--- constants
-marked-past : (k : Class) (base size most : ℕ) (s : List ℕ) (at v w p : ℕ) → at ≤ length s → markedAt k base size most s at ≡ Found v w p → Past s at p
-marked-past k base size most s at v w p h e =
-    by-test (ltb at (runEnd k s at) && leb (runEnd k s at) (at + most))
-    (λ t.
-    let q : p ≡ runEnd k s at = cc (marked k base size most s at t) in
-    (omega (arith, ltb-true at (runEnd k s at) (and-left (ltb at (runEnd k s at)) (leb (runEnd k s at) (at + most)) t)), omega (arith, within k s at h)))
-    (λ t. never (cc (unmarked k base size most s at t)))
+pub decimal-past : (s : List ℕ) (at : ℕ) {x : Number} → decimalAt s at ≡ x → NumberPast s at x
+decimal-past s at e = subst (NumberPast s at) e (number-past s at)
 
-of-decimal : (n : Number) (v w p : ℕ) → ofDecimal n ≡ Found v w p → n ≡ Plain v p
+-- constants: digits behind the mark at a place, or a decimal
+marked-past : (k : Class) (base size most : ℕ) (s : List ℕ) (at : ℕ) → at < length s → ConstantPast s at (markedAt k base size most s (at + 1))
+unfolding markedAt
+marked-past k base size most s at h =
+    by-case (ConstantPast s at) (ltb (at + 1) (runEnd k s (at + 1)) && leb (runEnd k s (at + 1)) (at + 1 + most))
+    (λ t. omega (arith, digits-between (at + 1) (runEnd k s (at + 1)) most t, within k s (at + 1) (omega arith)))
+    (λ t. tt)
+
+of-decimal : (s : List ℕ) (at : ℕ) (n : Number) → NumberPast s at n → ConstantPast s at (ofDecimal n)
 unfolding ofDecimal
-of-decimal (Plain x q) v w p e = cc
-of-decimal Unread v w p e = never (cc)
+of-decimal s at (Plain v p) h = h
+of-decimal s at Unread h = tt
 
-marks : (s : List ℕ) (at : ℕ) → eqb (getD s at 0) 39 ≡ true → constantAt s at ≡ markedAt Binary 2 1 binaryDigits s (at + 1)
+pub constant-past : (s : List ℕ) (at : ℕ) {x : Constant} → constantAt s at ≡ x → ConstantPast s at x
 unfolding constantAt
-marks s at t = rw (t, constantAt)
-
-signs : (s : List ℕ) (at : ℕ) → eqb (getD s at 0) 39 ≡ false → eqb (getD s at 0) 35 ≡ true → constantAt s at ≡ markedAt Octal 8 3 octalDigits s (at + 1)
-unfolding constantAt
-signs s at t u = rw (t, u, constantAt)
-
-digits : (s : List ℕ) (at : ℕ) → eqb (getD s at 0) 39 ≡ false → eqb (getD s at 0) 35 ≡ false → constantAt s at ≡ ofDecimal (decimalAt s at)
-unfolding constantAt
-digits s at t u = rw (t, u, constantAt)
-
-pub constant-past : (s : List ℕ) (at v w p : ℕ) → constantAt s at ≡ Found v w p → Past s at p
-constant-past s at v w p e =
-    by-test (eqb (getD s at 0) 39)
+constant-past s at e =
+    subst (ConstantPast s at) e
+    (by-case (ConstantPast s at) (eqb (getD s at 0) 39)
+    (λ t. marked-past Binary 2 1 binaryDigits s at (present s at 39 (eqb-true (getD s at 0) 39 t) (omega arith)))
     (λ t.
-    let h : at < length s = present s at 39 (eqb-true (getD s at 0) 39 t) (omega arith) in
-    let q : Past s (at + 1) p = marked-past Binary 2 1 binaryDigits s (at + 1) v w p (omega arith) (sym (marks s at t) ∙ e) in
-    omega arith)
+    by-case (ConstantPast s at) (eqb (getD s at 0) 35)
+    (λ u. marked-past Octal 8 3 octalDigits s at (present s at 35 (eqb-true (getD s at 0) 35 u) (omega arith)))
+    (λ u. of-decimal s at (decimalAt s at) (number-past s at))))
+
+-- bit numbers, one of which was read from z on: the `>` behind it, a second one, and a first one with what follows
+module _ (s : List ℕ) (at z : ℕ) (h : at ≤ z) where
+  bracket-past : (q : ℕ) → Past s z q → eqb (next s q) 62 ≡ true → Past s at (skip s q + 1)
+  bracket-past q o t = omega (arith, onward Space s q, present s (skip s q) 62 (eqb-true (next s q) 62 t) (omega arith))
+
+  second-past : (a : ℕ) (n : Number) → NumberPast s z n → SpanPast s at (secondBit s a n)
+  unfolding secondBit
+  second-past a (Plain b q) o = by-case (SpanPast s at) (eqb (next s q) 62) (λ t. bracket-past q o t) (λ t. tt)
+  second-past a Unread o = tt
+
+first-past : (s : List ℕ) (at z : ℕ) → at ≤ z → (n : Number) → NumberPast s z n → SpanPast s at (firstBit s n)
+unfolding firstBit
+first-past s at z h (Plain a q) o =
+    by-case (SpanPast s at) (eqb (next s q) 62)
+    (λ t. bracket-past s at z h q o t)
     (λ t.
-    by-test (eqb (getD s at 0) 35)
+    by-case (SpanPast s at) (eqb (next s q) 58)
     (λ u.
-    let h : at < length s = present s at 35 (eqb-true (getD s at 0) 35 u) (omega arith) in
-    let q : Past s (at + 1) p = marked-past Octal 8 3 octalDigits s (at + 1) v w p (omega arith) (sym (signs s at t u) ∙ e) in
-    omega arith)
-    (λ u. decimal-past s at v p (of-decimal (decimalAt s at) v w p (sym (digits s at t u) ∙ e))))
+    let y = skip s (skip s q + 1) in
+    second-past s at y (omega (arith, onward Space s q, onward Space s (skip s q + 1))) a (decimalAt s y) (number-past s y))
+    (λ u. tt))
+first-past s at z h Unread o = tt
 
--- bit numbers: a second one, from z on, and a first one that ended at q
-second-is : (s : List ℕ) (a b q : ℕ) → eqb (next s q) 62 ≡ true → secondBit s a (Plain b q) ≡ Bits a b (skip s q + 1)
-unfolding secondBit
-second-is s a b q t = rw (t, secondBit)
-
-second-not : (s : List ℕ) (a b q : ℕ) → eqb (next s q) 62 ≡ false → secondBit s a (Plain b q) ≡ Bad
-unfolding secondBit
-second-not s a b q t = rw (t, secondBit)
-
-second-past : (s : List ℕ) (a z : ℕ) (n : Number) (x y p : ℕ) → decimalAt s z ≡ n → secondBit s a n ≡ Bits x y p → Past s z p
-unfolding secondBit
-second-past s a z (Plain b q) x y p d e =
-    by-test (eqb (next s q) 62)
-    (λ t.
-    let h : skip s q < length s = present s (skip s q) 62 (eqb-true (next s q) 62 t) (omega arith) in
-    let r : p ≡ skip s q + 1 = cc (second-is s a b q t) in
-    let o : Past s z q = decimal-past s z b q d in
-    omega (arith, onward Space s q))
-    (λ t. never (cc (second-not s a b q t)))
-second-past s a z Unread x y p d e = never (cc)
-
-first-is : (s : List ℕ) (a q : ℕ) → eqb (next s q) 62 ≡ true → firstBit s (Plain a q) ≡ Bits a a (skip s q + 1)
-unfolding firstBit
-first-is s a q t = rw (t, firstBit)
-
-first-goes-on : (s : List ℕ) (a q : ℕ) → eqb (next s q) 62 ≡ false → eqb (next s q) 58 ≡ true
-    → firstBit s (Plain a q) ≡ secondBit s a (decimalAt s (skip s (skip s q + 1)))
-unfolding firstBit
-first-goes-on s a q t u = rw (t, u, firstBit)
-
-first-not : (s : List ℕ) (a q : ℕ) → eqb (next s q) 62 ≡ false → eqb (next s q) 58 ≡ false → firstBit s (Plain a q) ≡ Bad
-unfolding firstBit
-first-not s a q t u = rw (t, u, firstBit)
-
-first-past : (s : List ℕ) (z : ℕ) (n : Number) (x y p : ℕ) → decimalAt s z ≡ n → firstBit s n ≡ Bits x y p → Past s z p
-unfolding firstBit
-first-past s z (Plain a q) x y p d e =
-    let o : Past s z q = decimal-past s z a q d in
-    by-test (eqb (next s q) 62)
-    (λ t.
-    let h : skip s q < length s = present s (skip s q) 62 (eqb-true (next s q) 62 t) (omega arith) in
-    let r : p ≡ skip s q + 1 = cc (first-is s a q t) in
-    omega (arith, onward Space s q))
-    (λ t.
-    by-test (eqb (next s q) 58)
-    (λ u.
-    let i : Past s (skip s (skip s q + 1)) p =
-    second-past s a (skip s (skip s q + 1)) (decimalAt s (skip s (skip s q + 1))) x y p refl (sym (first-goes-on s a q t u) ∙ e) in
-    omega (arith, onward Space s q, onward Space s (skip s q + 1)))
-    (λ u. never (cc (first-not s a q t u))))
-first-past s z Unread x y p d e = never (cc)
-
-span-past : (s : List ℕ) (at x y p : ℕ) → spanAt s at ≡ Bits x y p → Past s at p
-unfolding spanAt
-span-past s at x y p e =
-    let o : Past s (skip s at) p = first-past s (skip s at) (decimalAt s (skip s at)) x y p refl e in
-    omega (arith, onward Space s at)
-
--- references
-part-is : (r w : ℕ) (sp : Span) (r′ w′ a b p : ℕ) → partOf r w sp ≡ Part r′ w′ a b p → (sp ≡ Bits a b p) × (a ≤ b) × (b < w) × (w ≡ w′) × (r ≡ r′)
+-- bit parts, by their bit numbers
+part-past : (s : List ℕ) (at r w : ℕ) (n : Span) → SpanPast s at n → ReferencePast s at (partOf r w n)
 unfolding partOf
-part-is r w (Bits x y q) r′ w′ a b p e =
-    by-test (leb x y && ltb y w)
-    (λ t.
-    let f : partOf r w (Bits x y q) ≡ Part r w x y q = part-made t in
-    let hx : x ≡ a = cc in
-    let hy : y ≡ b = cc in
-    let hw : w ≡ w′ = cc in
-    let hr : r ≡ r′ = cc in
-    (cc, omega (arith, leb-true x y (and-left (leb x y) (ltb y w) t)), omega (arith, ltb-true y w (and-right (leb x y) (ltb y w) t)), hw, hr))
-    (λ t.
-    let f : partOf r w (Bits x y q) ≡ Unknown = part-none t in
-    never (cc))
-  where
-    part-made : leb x y && ltb y w ≡ true → partOf r w (Bits x y q) ≡ Part r w x y q
-    part-made t = rw (t, partOf)
+part-past s at r w (Bits a b p) h = by-case (ReferencePast s at) (leb a b && ltb b w) (λ t. h) (λ t. tt)
+part-past s at r w Bad h = tt
 
-    part-none : leb x y && ltb y w ≡ false → partOf r w (Bits x y q) ≡ Unknown
-    part-none t = rw (t, partOf)
-part-is r w Bad r′ w′ a b p e = never (cc)
+-- a register of the list, with its width; and bit numbers in order, below it
+abbrev Known : List Named → Reference → Type 0
+Known rs (Whole r w p) = (r < length rs) × (w ≡ widthIn rs r)
+Known rs (Part r w a b p) = (r < length rs) × (w ≡ widthIn rs r) × (a ≤ b) × (b < w)
+Known rs Unknown = Unit {0}
 
-not-whole : (r w : ℕ) (sp : Span) (r′ w′ p : ℕ) {P : Type 0} → partOf r w sp ≡ Whole r′ w′ p → P
+part-known : (rs : List Named) (r : ℕ) → r < length rs → (n : Span) → Known rs (partOf r (widthIn rs r) n)
 unfolding partOf
-not-whole r w (Bits x y q) r′ w′ p e =
-    by-test (leb x y && ltb y w)
-    (λ t. never (cc (part-made t)))
-    (λ t. never (cc (part-none t)))
-  where
-    part-made : leb x y && ltb y w ≡ true → partOf r w (Bits x y q) ≡ Part r w x y q
-    part-made t = rw (t, partOf)
-
-    part-none : leb x y && ltb y w ≡ false → partOf r w (Bits x y q) ≡ Unknown
-    part-none t = rw (t, partOf)
-not-whole r w Bad r′ w′ p e = never (cc)
-
-opened : (s : List ℕ) (r w end : ℕ) → eqb (next s end) 60 ≡ true → registerAt s r w end ≡ partOf r w (spanAt s (skip s end + 1))
-unfolding registerAt
-opened s r w end t = rw (t, registerAt)
-
-plain-name : (s : List ℕ) (r w end : ℕ) → eqb (next s end) 60 ≡ false → registerAt s r w end ≡ Whole r w end
-unfolding registerAt
-plain-name s r w end t = rw (t, registerAt)
+part-known rs r h (Bits a b p) =
+    let w = widthIn rs r in
+    by-case (Known rs) (leb a b && ltb b w)
+    (λ t. (h, refl, leb-true a b (and-left (leb a b) (ltb b w) t), ltb-true b w (and-right (leb a b) (ltb b w) t)))
+    (λ t. tt)
+part-known rs r h Bad = tt
 
 module _ (rs : List Named) (s : List ℕ) (at : ℕ) where
   abbrev named : ℕ
   named = find (slice s at (runEnd Word s at)) rs
 
-  is-known : ltb named (length rs) ≡ true → referenceAt rs s at ≡ registerAt s named (widthIn rs named) (runEnd Word s at)
-  unfolding referenceAt
-  is-known t = rw (t, referenceAt)
+  abbrev end : ℕ
+  end = runEnd Word s at
 
-  is-unknown : ltb named (length rs) ≡ false → referenceAt rs s at ≡ Unknown
-  unfolding referenceAt
-  is-unknown t = rw (t, referenceAt)
-
-  pub whole-past : (r w p : ℕ) → isWord (getD s at 0) ≡ true → referenceAt rs s at ≡ Whole r w p → Past s at p
-  whole-past r w p b e =
-      let h : at < length s = letter-present s at b in
-      by-test (ltb named (length rs))
+  pub reference-past : {x : Reference} → isWord (getD s at 0) ≡ true → referenceAt rs s at ≡ x → ReferencePast s at x
+  unfolding referenceAt registerAt spanAt
+  reference-past i e =
+      let o : Past s at end = word-past s at i in
+      let z = skip s (skip s end + 1) in
+      subst (ReferencePast s at) e
+      (by-case (ReferencePast s at) (ltb named (length rs))
       (λ t.
-      by-test (eqb (next s (runEnd Word s at)) 60)
-      (λ u. not-whole named (widthIn rs named) (spanAt s (skip s (runEnd Word s at) + 1)) r w p (sym (is-known t ∙ opened s named (widthIn rs named) (runEnd Word s at) u) ∙ e))
+      by-case (ReferencePast s at) (eqb (next s end) 60)
       (λ u.
-      let q : p ≡ runEnd Word s at = cc (is-known t, plain-name s named (widthIn rs named) (runEnd Word s at) u) in
-      (omega (arith, run-onward Word s at h b), omega (arith, within Word s at (omega arith)))))
-      (λ t. never (cc (is-unknown t)))
+      part-past s at named (widthIn rs named) (firstBit s (decimalAt s z))
+      (first-past s at z (omega (arith, onward Space s end, onward Space s (skip s end + 1))) (decimalAt s z) (number-past s z)))
+      (λ u. o))
+      (λ t. tt))
 
-  pub bits-past : (r w a b p : ℕ) → isWord (getD s at 0) ≡ true → referenceAt rs s at ≡ Part r w a b p → Past s at p × (a ≤ b) × (b < w)
-  bits-past r w a b p i e =
-      let h : at < length s = letter-present s at i in
-      by-test (ltb named (length rs))
+  reference-known : Known rs (referenceAt rs s at)
+  unfolding referenceAt registerAt
+  reference-known =
+      by-case (Known rs) (ltb named (length rs))
       (λ t.
-      by-test (eqb (next s (runEnd Word s at)) 60)
-      (λ u.
-      let f = part-is named (widthIn rs named) (spanAt s (skip s (runEnd Word s at) + 1)) r w a b p (sym (is-known t ∙ opened s named (widthIn rs named) (runEnd Word s at) u) ∙ e) in
-      let o : Past s (skip s (runEnd Word s at) + 1) p = span-past s (skip s (runEnd Word s at) + 1) a b p (f .0) in
-      omega (arith, onward Word s at, onward Space s (runEnd Word s at)))
-      (λ u. never (cc (is-known t, plain-name s named (widthIn rs named) (runEnd Word s at) u))))
-      (λ t. never (cc (is-unknown t)))
-
-  -- the register is one of the list, with its width
-  of-list : (r w : ℕ) → ltb named (length rs) ≡ true → named ≡ r → widthIn rs named ≡ w → (r < length rs) × (w ≡ widthIn rs r)
-  of-list r w t q v = (subst (λ (k : ℕ). k < length rs) q (ltb-true named (length rs) t), sym v ∙ ap (widthIn rs) q)
+      let h = ltb-true named (length rs) t in
+      by-case (Known rs) (eqb (next s end) 60) (λ u. part-known rs named h (spanAt s (skip s end + 1))) (λ u. (h, refl)))
+      (λ t. tt)
 
   pub whole-known : (r w p : ℕ) → referenceAt rs s at ≡ Whole r w p → (r < length rs) × (w ≡ widthIn rs r)
-  whole-known r w p e =
-      by-test (ltb named (length rs))
-      (λ t.
-      by-test (eqb (next s (runEnd Word s at)) 60)
-      (λ u. not-whole named (widthIn rs named) (spanAt s (skip s (runEnd Word s at) + 1)) r w p (sym (is-known t ∙ opened s named (widthIn rs named) (runEnd Word s at) u) ∙ e))
-      (λ u.
-      let f = is-known t ∙ plain-name s named (widthIn rs named) (runEnd Word s at) u in
-      let q : named ≡ r = cc in
-      let v : widthIn rs named ≡ w = cc in
-      of-list r w t q v))
-      (λ t. never (cc (is-unknown t)))
+  whole-known r w p e = subst (Known rs) e reference-known
 
   pub bits-known : (r w a b p : ℕ) → referenceAt rs s at ≡ Part r w a b p → (r < length rs) × (w ≡ widthIn rs r) × (a ≤ b) × (b < w)
-  bits-known r w a b p e =
-      by-test (ltb named (length rs))
-      (λ t.
-      by-test (eqb (next s (runEnd Word s at)) 60)
-      (λ u.
-      let f = part-is named (widthIn rs named) (spanAt s (skip s (runEnd Word s at) + 1)) r w a b p (sym (is-known t ∙ opened s named (widthIn rs named) (runEnd Word s at) u) ∙ e) in
-      let k = of-list r w t (f .4) (f .3) in
-      (k .0, k .1, f .1, subst (λ (x : ℕ). b < x) (f .3) (f .2)))
-      (λ u. never (cc (is-known t, plain-name s named (widthIn rs named) (runEnd Word s at) u))))
-      (λ t. never (cc (is-unknown t)))
+  bits-known r w a b p e = subst (Known rs) e reference-known
 
--- a word that begins with a letter, and an operator that has a strength
-pub letters-past : (s : List ℕ) (at r : ℕ) → isLetter (getD s at 0) ≡ true → r ≡ runEnd Word s at → Past s at r
-letters-past s at r l e =
-    let b : isWord (getD s at 0) ≡ true = word-of-letter (getD s at 0) l in
-    let h : at < length s = letter-present s at b in
-    (omega (arith, run-onward Word s at h b), omega (arith, within Word s at (omega arith)))
-
-no-row : (row : ℕ) → 10 ≤ row → entryIn row .strength ≡ 0
-no-row row h = ap (λ (e : Entry). e .strength) (lib.ListN.List·getD-eq-default table noEntry h)
-
-row-small : (row k : ℕ) → entryIn row .strength ≡ k → 0 < k → row < 10
+-- an operator that has a strength stands in the table, and its token ends past its start
+row-small : (row k : ℕ) → entryIn row .strength ≡ k → 0 < k → row < length table
 row-small row k e h =
-    by-test (ltb row 10)
-    (λ t. ltb-true row 10 t)
-    (λ t. absurd (omega (arith, no-row row (borrow.Author.Tests.ltb-false row 10 t))))
+    by-test (ltb row (length table))
+    (λ t. ltb-true row (length table) t)
+    (λ t. absurd (omega (arith, ap (λ (x : Entry). x .strength) (List·getD-eq-default table noEntry (ltb-false row (length table) t)))))
 
-no-operator : (s : List ℕ) (at : ℕ) → length s ≤ skip s at → operatorAt s at ≡ 10
-unfolding operatorAt operatorRow findIn Rattle.characters.specs.Characters.same
-no-operator s at h = rw (lib.ListN.drop-of-length-le s h, lib.Seq.take-nil (tokenEnd s (skip s at) - skip s at))
+no-operator : (s : List ℕ) (at : ℕ) → length s ≤ skip s at → operatorAt s at ≡ length operatorNames
+unfolding operatorAt operatorRow findIn same
+no-operator s at h = rw (drop-of-length-le s h, take-nil (tokenEnd s (skip s at) - skip s at))
 
-pub operator-past : (s : List ℕ) (at k : ℕ) → entryIn (operatorAt s at) .strength ≡ k → 0 < k → (operatorAt s at < 10) × Past s at (operatorEnd s at)
+pub operator-past : (s : List ℕ) (at k : ℕ) → entryIn (operatorAt s at) .strength ≡ k → 0 < k → (operatorAt s at < length table) × Past s at (operatorEnd s at)
 unfolding operatorEnd
 operator-past s at k e h =
-    let r : operatorAt s at < 10 = row-small (operatorAt s at) k e h in
+    let r : operatorAt s at < length table = row-small (operatorAt s at) k e h in
     by-test (ltb (skip s at) (length s))
     (λ t.
     let i = token-inside s (skip s at) (ltb-true (skip s at) (length s) t) in
     (r, omega (arith, onward Space s at)))
-    (λ t. absurd (omega (arith, no-operator s at (borrow.Author.Tests.ltb-false (skip s at) (length s) t))))
+    (λ t. absurd (omega (arith, no-operator s at (ltb-false (skip s at) (length s) t))))

@@ -1,4 +1,4 @@
--- References, by place in the field s: the name of a register, or a bit part of one.
+-- References, by place in the field s: the name of a register, or a bit part of one. Of the signs, 60 is `<`, 62 `>` and 58 `:`.
 -- Assumes nothing.
 use Prim.Native.Nat.{ℕ, _+_}
 use mathlib.Core.Bool.{true, false, _&&_}

@@ -48,6 +48,7 @@ module _ (k : Class) (s : List ℕ) (at : ℕ) where
   unfolding runEnd
   stops h e = rw (drop-cons s at 0 h, run-none k (getD s at 0) (drop (suc at) s) e) (omega arith)
 
+  -- where it ends
   pub onward : at ≤ runEnd k s at
   unfolding runEnd
   onward = omega arith
@@ -55,6 +56,10 @@ module _ (k : Class) (s : List ℕ) (at : ℕ) where
   pub within : at ≤ length s → runEnd k s at ≤ length s
   unfolding runEnd
   within h = omega (arith, run-le k (drop at s), length-drop at s)
+
+-- a run that starts with a byte of its class is not empty
+pub run-onward : (k : Class) (s : List ℕ) (at : ℕ) → at < length s → belongs k (getD s at 0) ≡ true → at < runEnd k s at
+run-onward k s at h e = omega (arith, goes-on k s at h e, onward k s (at + 1))
 
 -- a run from the text's start
 pub from-start : (k : Class) (s : List ℕ) → runEnd k s 0 ≡ run k s

@@ -1,15 +1,15 @@
--- The laws of byte strings and of parts of a text: two strings are compared place by place, and a part of a part is a part.
+-- The laws of byte strings: two are compared place by place, and a part of a part is a part.
 -- Assumes nothing.
-use mathlib.Core.Path.{_≡_, refl, sym, ap, _∙_}
-use mathlib.Core.Bool.{Bool, true, false, _&&_}
+use mathlib.Core.Path.{_≡_, refl, ap, _∙_}
+use mathlib.Core.Bool.{Bool, true, false, false≢true, _&&_}
 use mathlib.Core.List.{List, [], _∷_}
-use Prim.Native.Nat.{ℕ, zero, suc, _+_, _-_, _≤_, _<_}
+use Prim.Native.Nat.{ℕ, zero, suc, _+_, _≤_, _<_}
 use native.Mathlib.Numerals.{add-one}
 use native.Mathlib.Omega.{arith}
 use lib.Dec.{eqb}
 use borrow.Author.Tests.{eqb-true}
-use lib.ListN.{length, getD, take, drop, length-drop, drop-of-length-le}
-use lib.Seq.{drop-cons, take-all, take-nil}
+use lib.ListN.{length, getD, take, drop, drop-of-length-le}
+use lib.Seq.{drop-cons, take-nil, take-take}
 use Rattle.characters.specs.Characters.{same}
 use Rattle.characters.proofs.Tests.{and-left, and-right}
 
@@ -29,8 +29,8 @@ unequal (x ∷ a) (y ∷ b) h = rw (unequal a b (λ e. h (ap suc e))) (both (eqb
 pub equal : (a b : List ℕ) → same a b ≡ true → a ≡ b
 unfolding same
 equal [] [] e = refl
-equal [] (y ∷ b) e = absurd (mathlib.Core.Bool.false≢true e)
-equal (x ∷ a) [] e = absurd (mathlib.Core.Bool.false≢true e)
+equal [] (y ∷ b) e = absurd (false≢true e)
+equal (x ∷ a) [] e = absurd (false≢true e)
 equal (x ∷ a) (y ∷ b) e =
     ap (λ (k : ℕ). k ∷ a) (eqb-true x y (and-left (eqb x y) (same a b) e)) ∙ ap (λ (l : List ℕ). y ∷ l) (equal a b (and-right (eqb x y) (same a b) e))
 
@@ -44,24 +44,10 @@ module _ (a b : List ℕ) (i : ℕ) where
   unfolding same
   equal-ends p q = rw (drop-of-length-le a p, drop-of-length-le b q)
 
--- parts of a text
-pub past : (s : List ℕ) (at n m k : ℕ) → length s ≤ at → length s ≤ k → take m (drop k s) ≡ take n (drop at s)
-past s at n m k h l = rw (drop-of-length-le s h, drop-of-length-le s l, take-nil m, take-nil n)
-
-pub rest : (s : List ℕ) (at n m : ℕ) → length s - at ≤ n → length s - at ≤ m → take m (drop at s) ≡ take n (drop at s)
-rest s at n m h l =
-    take-all m (drop at s) (omega (arith, length-drop at s)) ∙ sym (take-all n (drop at s) (omega (arith, length-drop at s)))
-
 -- a part within a part
 pub inner : (s : List ℕ) (n k m : ℕ) → k + n ≤ m → take n (drop k (take m s)) ≡ take n (drop k s)
-inner s zero k m h = empty (drop k (take m s)) (drop k s)
-  where
-    empty : (x y : List ℕ) → take zero x ≡ take zero y
-    empty x y = refl
+inner s zero k m h = refl
 inner [] (suc n) k m h = ap (λ (l : List ℕ). take (suc n) (drop k l)) (take-nil m)
 inner (x ∷ s) (suc n) k zero h = absurd (omega arith)
-inner (x ∷ s) (suc n) zero (suc m) h = ap (λ (l : List ℕ). x ∷ l) (first s n m (omega arith))
-  where
-    first : (t : List ℕ) (i j : ℕ) → i ≤ j → take i (take j t) ≡ take i t
-    first t i j = lib.Seq.take-take i j t
+inner (x ∷ s) (suc n) zero (suc m) h = ap (λ (l : List ℕ). x ∷ l) (take-take n m s (omega arith))
 inner (x ∷ s) (suc n) (suc k) (suc m) h = inner s (suc n) k m (omega arith)

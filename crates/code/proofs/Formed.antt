@@ -14,7 +14,7 @@ use Rattle.bit_parts.specs.References.{widthIn}
 use Rattle.code.specs.Tree.{Expr, register, bitPart, constant, memory, complemented, rotated, binary, width}
 use Rattle.code.specs.Formed.{Registers, Formed}
 
--- a formed tree's width: 1 to 16
+-- a formed tree's width is at most 16
 pub formed-narrow : (rs : List Named) (t : Expr) → Formed rs t → width t ≤ widest
 formed-narrow rs (register r w) h = h .narrow
 formed-narrow rs (bitPart r w a b) h = h .narrow
@@ -24,11 +24,13 @@ formed-narrow rs (complemented e) h = formed-narrow rs e h
 formed-narrow rs (rotated o e n) h = formed-narrow rs e (h .side)
 formed-narrow rs (binary o l r) h = h .narrow
 
+-- a register's: 1 to 16
 pub register-width : (rs : List Named) (r : ℕ) → Registers rs → r < length rs → (1 ≤ widthIn rs r) × (widthIn rs r ≤ widest)
 register-width [] r h l = absurd (omega arith)
 register-width (e ∷ es) zero h l = (h .some, h .narrow)
 register-width (e ∷ es) (suc r) h l = register-width es r (h .others) (omega arith)
 
+-- an operator's value has at least one bit if its left side has
 joined-some : (k : Widths) (l r : ℕ) → 1 ≤ l → 1 ≤ widthBy k l r
 joined-some Left l r h = h
 joined-some Sum l r h = omega arith
@@ -36,6 +38,7 @@ joined-some Carry l r h = omega arith
 joined-some One l r h = omega arith
 joined-some Wider l r h = omega arith
 
+-- a formed tree's width is at least 1
 pub formed-some : (rs : List Named) → Registers rs → (t : Expr) → Formed rs t → 1 ≤ width t
 formed-some rs g (register r w) h = subst (λ (n : ℕ). 1 ≤ n) (sym (h .width-is)) (register-width rs r g (h .listed) .0)
 formed-some rs g (bitPart r w a b) h = omega arith

@@ -11,7 +11,7 @@ use Rattle.word.specs.Word.{widest}
 use Rattle.code.specs.declared.Cursor.{Cursor}
 use Rattle.code.specs.declared.Part.{Part}
 use Rattle.code.specs.declared.Part.the-variants.{Found, Fault}
-use Rattle.operators.specs.Operators.{rowOf, entryIn}
+use Rattle.operators.specs.Operators.{table, rowOf, entryIn}
 use Rattle.code.specs.Tree.{Expr, width, pieces}
 use Rattle.code.specs.Readings.{Reading, read, outside, limited}
 use Rattle.code.specs.Code.{codeOf}
@@ -61,7 +61,7 @@ over-both l r u p q k a b d x left w right v from before mid now e m hl hr =
       place-is = hr .place-is;
       width-is = refl;
       pieces-are = omega (arith, hl .pieces-are, hr .pieces-are);
-      words-are = omega (arith, hl .words-are, hr .words-are, ap length e, length-append (codeOf l) (codeOf r), length-append (codeOf l ++ codeOf r) (k ∷ a ∷ b ∷ d ∷ []), length-append (codeOf l) (codeOf r ++ (k ∷ a ∷ b ∷ d ∷ [])), length-append (codeOf r) (k ∷ a ∷ b ∷ d ∷ []));
+      words-are = omega (arith, hl .words-are, hr .words-are, ap length e, length-append (codeOf l) (codeOf r), length-append (codeOf l ++ codeOf r) (k ∷ a ∷ b ∷ d ∷ []));
       code-is =
           ap (λ (z : List ℕ). sets z (4 * right .words) (k ∷ a ∷ b ∷ d ∷ [])) (hr .code-is)
           ∙ sets-behind mid (4 * left .words) (4 * right .words) (codeOf r) (k ∷ a ∷ b ∷ d ∷ []) (hr .words-are)
@@ -71,7 +71,7 @@ over-both l r u p q k a b d x left w right v from before mid now e m hl hr =
     }
 
 -- a row's operator stands in that row
-pub row-is : (row : ℕ) → row < 10 → rowOf (entryIn row .operator) ≡ row
+pub row-is : (row : ℕ) → row < length table → rowOf (entryIn row .operator) ≡ row
 row-is zero h = refl
 row-is (suc zero) h = refl
 row-is (suc (suc zero)) h = refl
@@ -84,7 +84,7 @@ row-is (suc (suc (suc (suc (suc (suc (suc (suc zero)))))))) h = refl
 row-is (suc (suc (suc (suc (suc (suc (suc (suc (suc zero))))))))) h = refl
 row-is (suc (suc (suc (suc (suc (suc (suc (suc (suc (suc n)))))))))) h = absurd (omega arith)
 
--- a tree of one word that is narrow enough, and one that isn't
+-- a tree of one word that is narrow enough, one that isn't, and none
 module _ (from : Cursor) (before : List ℕ) (p w : ℕ) where
   pub leaf : (k a b d : ℕ) → w ≤ widest
       → Single p w (k ∷ a ∷ b ∷ d ∷ []) (Found (behind from p 1) w) from before (sets before (4 * from .words) (k ∷ a ∷ b ∷ d ∷ []))
@@ -100,7 +100,7 @@ module _ (from : Cursor) (before : List ℕ) (p w : ℕ) where
               words-are = omega (arith, ap length code);
               code-is = ap (sets before (4 * from .words)) code;
             });
-        grown = record { onward = omega arith; inside = i; words-most = omega arith; pieces-most = omega arith; narrow = h };
+        grown = omega arith;
       }
 
   pub wide-leaf : (word after : List ℕ) → widest < w → Single p w word Fault from before after

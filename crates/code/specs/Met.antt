@@ -46,6 +46,7 @@ pub record Taken (s : List ℕ) (a words pieces : ℕ) (c : Cursor) (w : ℕ) : 
   pub pieces-most : c .pieces + a ≤ pieces + c .place
   pub narrow : w ≤ widest
 
+-- the same of an answer that may be a fault
 abbrev pub Grown : List ℕ → ℕ → ℕ → ℕ → Part → Type 0
 Grown s a words pieces (Found c w) = Taken s a words pieces c w
 Grown s a words pieces Fault = Unit {0}
@@ -78,7 +79,7 @@ OneMore right (Found c w) = (c ≡ record { place = right .place; words = right 
 OneMore right Fault = Unit {0}
 
 -- an operand put under a Not, whatever it is
-pub record Turned (c : Cursor) (w : ℕ) (r : Part) (now after : List ℕ) : Type 0 where
+pub record UnderNot (c : Cursor) (w : ℕ) (r : Part) (now after : List ℕ) : Type 0 where
   pub meets : (x : Reading) (from : Cursor) (before : List ℕ) → Meets x (Found c w) from before now → Meets (notOf x) r from before after
   pub is : r ≡ Found (record { place = c .place; words = c .words + 1; pieces = c .pieces + 1 }) w
 

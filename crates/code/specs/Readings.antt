@@ -25,6 +25,7 @@ pub data Reading : Type 0 where
 unfoldable pub limited : Expr → ℕ → Reading
 limited t p = elim (leb (width t) widest) [ true ↦ read t p | false ↦ outside ]
 
+-- a name or a bit part, and a constant
 unfoldable pub ofReference : Reference → Reading
 ofReference (Whole r w p) = limited (register r w) p
 ofReference (Part r w a b p) = limited (bitPart r w a b) p
@@ -34,12 +35,12 @@ unfoldable pub ofConstant : Constant → Reading
 ofConstant (Found v w p) = limited (constant w v) p
 ofConstant Missing = outside
 
--- "Not": its operand turned over
+-- "Not", before its operand
 unfoldable pub notOf : Reading → Reading
 notOf (read t p) = read (complemented t) p
 notOf outside = outside
 
--- what stands in `M[..]` or `(..)`, by its closing byte
+-- what stands in `M[..]` or `(..)`, by its closing byte; 93 is `]`
 abbrev pub inside : ℕ → Expr → Expr
 inside close t = elim (eqb close 93) [ true ↦ memory t | false ↦ t ]
 

@@ -46,7 +46,7 @@ pieces (binary o l r) = pieces l + pieces r + 1
 abbrev pub mostPieces : ℕ
 mostPieces = 32
 
--- "A destination is a name, a bit part `name<a>` or `name<a:b>` .., or `M[expression]`"
+-- "A destination is a name, a bit part `name<a>` or `name<a:b>` .., or `M[expression]`"; what is none of them leads nowhere
 pub data Destination : Type 0 where
   toRegister : ℕ → ℕ → Destination
   toPart : ℕ → ℕ → ℕ → ℕ → Destination

@@ -24,7 +24,7 @@ pub enum Part {
     Fault,
 }
 
-// Puts a word into the table.
+// Puts a word into the table: its kind (0 a register, 1 a bit part, 2 a constant, 3 a memory word, from 4 on the operators) and three numbers.
 pub fn emit(code: &mut [u16; CODE_PLACES], words: usize, kind: u16, a: u16, b: u16, c: u16)
     requires { ⌜ words < capacity ⌝ }
     ensures { λ _. ⌜ now (code .exit) ≡ sets (now (code .entry)) (4 * words) (kind ∷ a ∷ b ∷ c ∷ []) ⌝ }

@@ -13,7 +13,7 @@ ghost use Rattle.operators.specs.Operators.{table};
 ghost use Rattle.constants.specs.Constants.{decimalAt};
 ghost use Rattle.tokens.specs.Tokens.{skip};
 ghost use Rattle.code.specs.Readings.{closed, turned, joined};
-ghost use Rattle.code.specs.Met.{Room, Made, Behind, Combined, Turned, capacity};
+ghost use Rattle.code.specs.Met.{Room, Made, Behind, Combined, UnderNot, capacity};
 
 // "words of 12 bits"
 const WORD_BITS: u16 = 12;
@@ -54,7 +54,7 @@ pub fn closed_part(
 // What was read, turned over.
 pub fn complemented_part(code: &mut [u16; CODE_PLACES], c: Cursor, width: u16) -> Part
     requires { ⌜ c .words < capacity ⌝ ∗ ⌜ c .pieces < capacity ⌝ }
-    ensures { λ r. ⌜ Turned c width r (now (code .entry)) (now (code .exit)) ⌝ }
+    ensures { λ r. ⌜ UnderNot c width r (now (code .entry)) (now (code .exit)) ⌝ }
 {
     emit(code, c.words, 4, width, 0, 0);
     Part::Found(one_more(c, c.place), width)

@@ -1,10 +1,12 @@
--- The laws of digits: a number grows by at most four bits with a digit, and by a digit's own bits where its base is a power of two.
+-- The laws of digits, and of what is read from them: a number grows by at most four bits with a digit, and by a digit's own bits where its
+-- base is a power of two; the shortest form; constants behind a mark, and decimals.
 -- Assumes nothing.
 use mathlib.Core.Path.{_≡_, refl, sym, ap, subst, _∙_}
 use mathlib.Core.Bool.{true, false, _&&_}
 use mathlib.Core.List.{List}
 use Prim.Native.Nat.{ℕ, zero, suc, _+_, _-_, _*_, _%_, _^_, _≤_, _<_}
 use native.Mathlib.Nat.{mul-le-mul-left, add-zero, mul-zero, mul-suc, add-assoc, add-comm}
+use native.Mathlib.Numerals.{sub-one}
 use native.Mathlib.Omega.{arith}
 use lib.Arith.{digits-lt}
 use lib.Pow.{pow-add, pow-mono}
@@ -29,10 +31,7 @@ grows k v base d h b e = omega (arith, pow-add 2 k 4, mul-le-mul-left v b)
 pub more-digits : (base : ℕ) (s : List ℕ) (at n v : ℕ) → 0 < n → numberAt base s at n v ≡ numberAt base s (at + 1) (n - 1) (v * base + getD s at 0 % 16)
 unfolding numberAt
 more-digits base s at zero v h = absurd (omega arith)
-more-digits base s at (suc n) v h = ap (λ (k : ℕ). numberAt base s (at + 1) k (v * base + getD s at 0 % 16)) n-is
-  where
-    n-is : n ≡ suc n - 1
-    n-is = omega arith
+more-digits base s at (suc n) v h = ap (λ (k : ℕ). numberAt base s (at + 1) k (v * base + getD s at 0 % 16)) (sym (sub-one (suc n)))
 
 pub no-digits : (base : ℕ) (s : List ℕ) (at n v : ℕ) → n ≤ 0 → numberAt base s at n v ≡ v
 unfolding numberAt
@@ -65,10 +64,7 @@ octal-small b e =
 pub longer : (f n v : ℕ) → fits n v ≡ false → 0 < f → shortestFrom f n v ≡ shortestFrom (f - 1) (n + 1) v
 unfolding shortestFrom
 longer zero n v e h = absurd (omega arith)
-longer (suc f) n v e h = rw (e, shortestFrom) (ap (λ (k : ℕ). shortestFrom k (n + 1) v) f-is)
-  where
-    f-is : f ≡ suc f - 1
-    f-is = omega arith
+longer (suc f) n v e h = rw (e, shortestFrom) (ap (λ (k : ℕ). shortestFrom k (n + 1) v) (sym (sub-one (suc f))))
 
 pub long-enough : (f n v : ℕ) → fits n v ≡ true → shortestFrom f n v ≡ n
 unfolding shortestFrom
@@ -98,11 +94,9 @@ module _ (k : Class) (base size most : ℕ) (s : List ℕ) (at : ℕ) where
   unmarked t = rw (t, markedAt)
 
 -- how many digits stand behind a mark
-pub some-digits : (at r most : ℕ) → ltb at r && leb r (at + most) ≡ true → at < r
-some-digits at r most t = ltb-true at r (and-left (ltb at r) (leb r (at + most)) t)
-
-pub few-digits : (at r most : ℕ) → ltb at r && leb r (at + most) ≡ true → r ≤ at + most
-few-digits at r most t = leb-true r (at + most) (and-right (ltb at r) (leb r (at + most)) t)
+pub digits-between : (at r most : ℕ) → ltb at r && leb r (at + most) ≡ true → (at < r) × (r ≤ at + most)
+digits-between at r most t =
+    (ltb-true at r (and-left (ltb at r) (leb r (at + most)) t), leb-true r (at + most) (and-right (ltb at r) (leb r (at + most)) t))
 
 -- what stands behind a mark fits 16 bits
 pub marked-lt : (k : Class) (size : ℕ) → ((b : ℕ) → belongs k b ≡ true → b % 16 < 2 ^ size) → (s : List ℕ) (at r : ℕ)
@@ -131,14 +125,15 @@ module _ (s : List ℕ) (at : ℕ) where
   unfolding decimalAt
   not-plain t = rw (t, decimalAt)
 
-  pub decimal-past : length s ≤ at → decimalAt s at ≡ Unread
+  -- past the end stands neither a decimal nor another constant
+  pub no-decimal : length s ≤ at → decimalAt s at ≡ Unread
   unfolding decimalAt
-  decimal-past h = rw (List·getD-eq-default s 0 h, decimalAt)
+  no-decimal h = rw (List·getD-eq-default s 0 h, decimalAt)
 
-  pub constant-past : length s ≤ at → constantAt s at ≡ Missing
+  pub no-constant : length s ≤ at → constantAt s at ≡ Missing
   unfolding constantAt ofDecimal
-  constant-past h =
+  no-constant h =
       let z : getD s at 0 ≡ 0 = List·getD-eq-default s 0 h in
       let no-quote : eqb (getD s at 0) 39 ≡ false = ap (λ (x : ℕ). eqb x 39) z in
       let no-number-sign : eqb (getD s at 0) 35 ≡ false = ap (λ (x : ℕ). eqb x 35) z in
-      rw (no-quote, no-number-sign, constantAt) (ap ofDecimal (decimal-past h))
+      rw (no-quote, no-number-sign, constantAt) (ap ofDecimal (no-decimal h))

@@ -19,9 +19,9 @@ use Rattle.constants.specs.declared.Number.{Number}
 use Rattle.constants.specs.declared.Constant.{Constant}
 use Rattle.constants.specs.declared.Constant.the-variants.{Found, Missing}
 use Rattle.characters.proofs.Cases.{by-case}
-use Rattle.characters.proofs.Tests.{and-left}
-use Rattle.constants.proofs.Digits.{value-lt, binary-small, octal-small}
+use Rattle.constants.proofs.Digits.{digits-between, value-lt, binary-small, octal-small}
 
+-- a constant of at least one bit, whose value fits
 abbrev pub Fitting : Constant → Type 0
 Fitting (Found v w p) = record { some : 1 ≤ w; fits : v < 2 ^ w }
 Fitting Missing = Unit {0}
@@ -33,7 +33,7 @@ unfolding markedAt
 marked-fits k size most h small s at =
     by-case Fitting (ltb at (runEnd k s at) && leb (runEnd k s at) (at + most))
     (λ t.
-    let l : at < runEnd k s at = ltb-true at (runEnd k s at) (and-left (ltb at (runEnd k s at)) (leb (runEnd k s at) (at + most)) t) in
+    let l = digits-between at (runEnd k s at) most t in
     record {
       some = positive (runEnd k s at - at) (omega arith);
       fits =

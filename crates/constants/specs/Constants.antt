@@ -33,7 +33,7 @@ decimalDigits = 5
 abbrev pub largest : ℕ
 largest = 32767
 
--- whether the run from `at` to `end`, in which digits reach as far as `digits`, is a decimal "without leading zeros" that is not too long
+-- whether the run from `at` to `end`, in which digits reach as far as `digits`, is a decimal "without leading zeros" (48 is `0`) that is not too long
 abbrev pub isPlain : ℕ → ℕ → ℕ → ℕ → Bool
 isPlain first at digits end = eqb digits end && leb end (at + decimalDigits) && (not (eqb first 48) || eqb end (at + 1))
 
@@ -66,11 +66,12 @@ shortestFrom (suc f) n v = elim (fits n v) [ true ↦ n | false ↦ shortestFrom
 abbrev pub shortest : ℕ → ℕ
 shortest v = shortestFrom 14 1 v
 
+-- "one bit longer than its shortest form"
 unfoldable pub ofDecimal : Number → Constant
 ofDecimal (Plain v end) = Found v (shortest v + 1) end
 ofDecimal Unread = Missing
 
--- the constant at a place: its value, its width and the place after it
+-- the constant at a place: its value, its width and the place after it; 39 is `'`, 35 is `#`
 unfoldable pub constantAt : List ℕ → ℕ → Constant
 constantAt s at =
     elim (eqb (getD s at 0) 39) [

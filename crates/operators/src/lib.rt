@@ -4,6 +4,7 @@ ghost use Prim.Native.Nat.{_≤_, max};
 ghost use Rattle.word.specs.Word.{widest};
 ghost use Rattle.operators.specs.Operators.{entryIn, widthBy};
 
+// The ten operators, strongest first.
 pub enum Operator {
     Not,
     Join,
@@ -27,6 +28,7 @@ pub enum Widths {
     Wider,
 }
 
+// A row of the table.
 pub struct Entry {
     pub operator: Operator,
     pub strength: u8,

@@ -8,10 +8,9 @@ use native.Mathlib.Omega.{arith}
 use lib.Dec.{ltb, eqb}
 use lib.ListN.{length, getD, List·getD-eq-default}
 use borrow.Author.Tests.{ltb-true, ltb-false, eq-eqb, ne-eqb}
-use Rattle.characters.specs.Characters.{isWord, belongs, runEnd}
-use Rattle.characters.specs.declared.Class.{Class}
+use Rattle.characters.specs.Characters.{isWord, runEnd}
 use Rattle.characters.specs.declared.Class.the-variants.{Word}
-use Rattle.characters.proofs.Runs.{goes-on, onward, within}
+use Rattle.characters.proofs.Runs.{onward, within, run-onward}
 use Rattle.characters.proofs.Tests.{by-test}
 use Rattle.tokens.specs.Tokens.{skip, next, tokenEnd}
 
@@ -22,10 +21,7 @@ present s at b e h =
     (λ t. ltb-true at (length s) t)
     (λ t. absurd (omega (arith, List·getD-eq-default s 0 (ltb-false at (length s) t))))
 
--- a run that starts with a byte of its class is not empty
-pub run-onward : (k : Class) (s : List ℕ) (at : ℕ) → at < length s → belongs k (getD s at 0) ≡ true → at < runEnd k s at
-run-onward k s at h e = omega (arith, goes-on k s at h e, onward k s (at + 1))
-
+-- a token ends with its run of letters, digits and dots, or after its one sign; and it is not empty
 module _ (s : List ℕ) (at : ℕ) where
   pub word-end : isWord (getD s at 0) ≡ true → tokenEnd s at ≡ runEnd Word s at
   unfolding tokenEnd

@@ -21,17 +21,23 @@ byte-requires c κs = search needs
 
 add-t9 : tie.Need-add-t9
 add-t9 c =
-    omega (arith, present (c .before .before .before .before .before .before .before .args .s .now) (c .before .before .skip-spaces .result) 62 (sym (c .before .byte .ensures) ∙ c .if1 .taken) (omega arith))
+    let s = c .before .before .before .before .before .before .before .args .s .now in
+    omega (arith, present s (c .before .before .skip-spaces .result) 62 (sym (c .before .byte .ensures) ∙ c .if1 .taken) (omega arith))
 
 returns : tie.Need-returns
 unfolding firstBit
 returns c =
-    let t = at-mark (c .before .before .before .before .before .before .before .args .s .now) (c .before .before .before .before .first .given .0 .1 .0) (c .before .before .skip-spaces .result) (c .before .byte .result) 62 (c .before .before .skip-spaces .ensures) (c .before .byte .ensures) (c .if1 .taken) in
-    rw (c .before .before .before .before .first .given .1, c .before .before .skip-spaces .ensures, t, firstBit)
+    let s = c .before .before .before .before .before .before .before .args .s .now in
+    let first = c .before .before .before .before .first .given in
+    let end = c .before .before .skip-spaces in
+    let mark = c .before .byte in
+    let t = at-mark s (first .0 .1 .0) (end .result) (mark .result) 62 (end .ensures) (mark .ensures) (c .if1 .taken) in
+    rw (first .1, end .ensures, t, firstBit)
 
 add-skip-spaces : tie.Need-add-skip-spaces
 add-skip-spaces c =
-    omega (arith, present (c .before .before .before .before .before .before .before .before .args .s .now) (c .before .before .before .skip-spaces .result) 58 (sym (c .before .before .byte .ensures) ∙ c .if2 .taken) (omega arith))
+    let s = c .before .before .before .before .before .before .before .before .args .s .now in
+    omega (arith, present s (c .before .before .before .skip-spaces .result) 58 (sym (c .before .before .byte .ensures) ∙ c .if2 .taken) (omega arith))
 
 skip-spaces-requires-2 : tie.Need-skip-spaces-requires-2
 skip-spaces-requires-2 c κs = search needs
@@ -46,10 +52,14 @@ returns-2 : tie.Need-returns-2
 unfolding firstBit
 returns-2 c =
     let s = c .before .before .before .before .before .before .before .before .before .before .before .args .s .now in
-    let p = c .before .before .before .before .before .before .before .before .first .given .0 .1 .0 in
-    let t = off-mark s p (c .before .before .before .before .before .before .skip-spaces .result) (c .before .before .before .before .before .byte .result) 62 (c .before .before .before .before .before .before .skip-spaces .ensures) (c .before .before .before .before .before .byte .ensures) (c .before .before .before .before .if1 .left) in
-    let u = at-mark s p (c .before .before .before .before .before .before .skip-spaces .result) (c .before .before .before .before .before .byte .result) 58 (c .before .before .before .before .before .before .skip-spaces .ensures) (c .before .before .before .before .before .byte .ensures) (c .before .before .before .if2 .taken) in
-    c .second-bit .ensures ∙ ap (secondBit s (c .before .before .before .before .before .before .before .before .first .given .0 .0)) (c .before .decimal-at .ensures ∙ ap (decimalAt s) (c .before .before .skip-spaces2 .ensures ∙ ap (λ (k : ℕ). skip s (k + 1)) (c .before .before .before .before .before .before .skip-spaces .ensures))) ∙ sym (rw (c .before .before .before .before .before .before .before .before .first .given .1, t, u, firstBit))
+    let first = c .before .before .before .before .before .before .before .before .first .given in
+    let end = c .before .before .before .before .before .before .skip-spaces in
+    let mark = c .before .before .before .before .before .byte in
+    let t = off-mark s (first .0 .1 .0) (end .result) (mark .result) 62 (end .ensures) (mark .ensures) (c .before .before .before .before .if1 .left) in
+    let u = at-mark s (first .0 .1 .0) (end .result) (mark .result) 58 (end .ensures) (mark .ensures) (c .before .before .before .if2 .taken) in
+    c .second-bit .ensures
+    ∙ ap (secondBit s (first .0 .0)) (c .before .decimal-at .ensures ∙ ap (decimalAt s) (c .before .before .skip-spaces2 .ensures ∙ ap (λ (k : ℕ). skip s (k + 1)) (end .ensures)))
+    ∙ sym (rw (first .1, t, u, firstBit))
 
 enum-told : tie.Need-enum-told
 enum-told c = search needs
@@ -57,9 +67,13 @@ enum-told c = search needs
 returns-3 : tie.Need-returns-3
 unfolding firstBit
 returns-3 c =
-    let t = off-mark (c .before .before .before .before .before .before .before .before .args .s .now) (c .before .before .before .before .before .first .given .0 .1 .0) (c .before .before .before .skip-spaces .result) (c .before .before .byte .result) 62 (c .before .before .before .skip-spaces .ensures) (c .before .before .byte .ensures) (c .before .if1 .left) in
-    let u = off-mark (c .before .before .before .before .before .before .before .before .args .s .now) (c .before .before .before .before .before .first .given .0 .1 .0) (c .before .before .before .skip-spaces .result) (c .before .before .byte .result) 58 (c .before .before .before .skip-spaces .ensures) (c .before .before .byte .ensures) (c .if2 .left) in
-    rw (c .before .before .before .before .before .first .given .1, t, u, firstBit)
+    let s = c .before .before .before .before .before .before .before .before .args .s .now in
+    let first = c .before .before .before .before .before .first .given in
+    let end = c .before .before .before .skip-spaces in
+    let mark = c .before .before .byte in
+    let t = off-mark s (first .0 .1 .0) (end .result) (mark .result) 62 (end .ensures) (mark .ensures) (c .before .if1 .left) in
+    let u = off-mark s (first .0 .1 .0) (end .result) (mark .result) 58 (end .ensures) (mark .ensures) (c .if2 .left) in
+    rw (first .1, t, u, firstBit)
 
 returns-4 : tie.Need-returns-4
 unfolding firstBit

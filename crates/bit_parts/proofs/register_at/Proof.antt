@@ -16,7 +16,8 @@ byte-requires c κs = search needs
 
 add-span-at : tie.Need-add-span-at
 add-span-at c =
-    omega (arith, present (c .before .before .before .before .args .s .now) (c .before .before .skip-spaces .result) 60 (sym (c .before .byte .ensures) ∙ c .if1 .taken) (omega arith))
+    let s = c .before .before .before .before .args .s .now in
+    omega (arith, present s (c .before .before .skip-spaces .result) 60 (sym (c .before .byte .ensures) ∙ c .if1 .taken) (omega arith))
 
 span-at-requires : tie.Need-span-at-requires
 span-at-requires c κs = search needs
@@ -28,14 +29,20 @@ returns : tie.Need-returns
 unfolding registerAt
 returns c =
     let a = c .before .before .before .before .before .before .args in
-    let t = at-mark (a .s .now) (a .end) (c .before .before .before .before .skip-spaces .result) (c .before .before .before .byte .result) 60 (c .before .before .before .before .skip-spaces .ensures) (c .before .before .before .byte .ensures) (c .before .before .if1 .taken) in
-    c .part-of .ensures ∙ ap (partOf (a .register) (a .width)) (c .before .span-at .ensures ∙ ap (λ (k : ℕ). spanAt (a .s .now) (k + 1)) (c .before .before .before .before .skip-spaces .ensures)) ∙ sym (rw (t, registerAt))
+    let mark = c .before .before .before .before .skip-spaces in
+    let byte = c .before .before .before .byte in
+    let t = at-mark (a .s .now) (a .end) (mark .result) (byte .result) 60 (mark .ensures) (byte .ensures) (c .before .before .if1 .taken) in
+    c .part-of .ensures
+    ∙ ap (partOf (a .register) (a .width)) (c .before .span-at .ensures ∙ ap (λ (k : ℕ). spanAt (a .s .now) (k + 1)) (mark .ensures))
+    ∙ sym (rw (t, registerAt))
 
 returns-2 : tie.Need-returns-2
 unfolding registerAt
 returns-2 c =
     let a = c .before .before .before .before .args in
-    let t = off-mark (a .s .now) (a .end) (c .before .before .skip-spaces .result) (c .before .byte .result) 60 (c .before .before .skip-spaces .ensures) (c .before .byte .ensures) (c .if1 .left) in
+    let mark = c .before .before .skip-spaces in
+    let byte = c .before .byte in
+    let t = off-mark (a .s .now) (a .end) (mark .result) (byte .result) 60 (mark .ensures) (byte .ensures) (c .if1 .left) in
     rw (t, registerAt)
 
 pub register-at-spec : {M : Type 1} → statement M

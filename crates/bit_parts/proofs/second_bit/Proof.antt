@@ -18,7 +18,8 @@ byte-requires c κs = search needs
 
 add-t11 : tie.Need-add-t11
 add-t11 c =
-    omega (arith, present (c .before .before .before .before .before .before .before .args .s .now) (c .before .before .skip-spaces .result) 62 (sym (c .before .byte .ensures) ∙ c .if1 .taken) (omega arith))
+    let s = c .before .before .before .before .before .before .before .args .s .now in
+    omega (arith, present s (c .before .before .skip-spaces .result) 62 (sym (c .before .byte .ensures) ∙ c .if1 .taken) (omega arith))
 
 enum-told : tie.Need-enum-told
 enum-told c = search needs
@@ -26,14 +27,22 @@ enum-told c = search needs
 returns : tie.Need-returns
 unfolding secondBit
 returns c =
-    let t = at-mark (c .before .before .before .before .before .before .before .args .s .now) (c .before .before .before .before .last .given .0 .1 .0) (c .before .before .skip-spaces .result) (c .before .byte .result) 62 (c .before .before .skip-spaces .ensures) (c .before .byte .ensures) (c .if1 .taken) in
-    rw (c .before .before .before .before .last .given .1, c .before .before .skip-spaces .ensures, t, secondBit)
+    let s = c .before .before .before .before .before .before .before .args .s .now in
+    let last = c .before .before .before .before .last .given in
+    let end = c .before .before .skip-spaces in
+    let mark = c .before .byte in
+    let t = at-mark s (last .0 .1 .0) (end .result) (mark .result) 62 (end .ensures) (mark .ensures) (c .if1 .taken) in
+    rw (last .1, end .ensures, t, secondBit)
 
 returns-2 : tie.Need-returns-2
 unfolding secondBit
 returns-2 c =
-    let t = off-mark (c .before .before .before .before .before .before .before .args .s .now) (c .before .before .before .before .last .given .0 .1 .0) (c .before .before .skip-spaces .result) (c .before .byte .result) 62 (c .before .before .skip-spaces .ensures) (c .before .byte .ensures) (c .if1 .left) in
-    rw (c .before .before .before .before .last .given .1, t, secondBit)
+    let s = c .before .before .before .before .before .before .before .args .s .now in
+    let last = c .before .before .before .before .last .given in
+    let end = c .before .before .skip-spaces in
+    let mark = c .before .byte in
+    let t = off-mark s (last .0 .1 .0) (end .result) (mark .result) 62 (end .ensures) (mark .ensures) (c .if1 .left) in
+    rw (last .1, t, secondBit)
 
 returns-3 : tie.Need-returns-3
 unfolding secondBit

@@ -18,7 +18,8 @@ first-bit-requires c κs = search needs
 returns : tie.Need-returns
 unfolding spanAt
 returns c =
-    c .first-bit .ensures ∙ ap (firstBit (c .before .before .before .before .args .s .now)) (c .before .decimal-at .ensures ∙ ap (decimalAt (c .before .before .before .before .args .s .now)) (c .before .before .skip-spaces .ensures))
+    let s = c .before .before .before .before .args .s .now in
+    c .first-bit .ensures ∙ ap (firstBit s) (c .before .decimal-at .ensures ∙ ap (decimalAt s) (c .before .before .skip-spaces .ensures))
 
 pub span-at-spec : {M : Type 1} → statement M
 span-at-spec =

@@ -3,7 +3,6 @@ use mathlib.Core.Path.{_≡_, refl, sym, ap, subst, _∙_}
 use mathlib.Core.Bool.{Bool, false, _&&_}
 use mathlib.Core.List.{List}
 use Prim.Native.Nat.{ℕ, _+_, _-_, _≤_, _<_}
-use native.Mathlib.Omega.{arith}
 use lib.Dec.{eqb}
 use lib.ListN.{length, getD, drop}
 use borrow.Author.Tests.{eq-eqb, ne-eqb}
@@ -12,9 +11,6 @@ use Rattle.characters.proofs.Strings.{unequal, compared, equal-ends}
 use borrow.Author.Needs.{needs}
 use Rattle.characters.proofs.is_same.Statement.{statement}
 use Rattle.characters.proofs.is_same.Tie as tie
-
-onward : (i n : ℕ) → i < n → i + 1 ≤ n
-onward i n h = omega arith
 
 -- the bytes at a place of both differ, or agree
 module _ (a b : List ℕ) (i : ℕ) (e : length a ≡ length b) (h : i < length a) (l : same a b ≡ same (drop i a) (drop i b)) where
@@ -65,7 +61,7 @@ loop-again : tie.Need-loop-again Inv-loop μ-loop
 loop-again c =
     let a = c .before .before .before .before .before .before .args in
     let l = c .before .before .before .before .loop in
-    (l .inv .0, onward (l .i) (length (a .a .now)) (c .before .before .before .loop-test .taken), agree (a .a .now) (a .b .now) (l .i) (l .inv .0) (c .before .before .before .loop-test .taken) (l .inv .2) (c .if2 .left))
+    (l .inv .0, search needs, agree (a .a .now) (a .b .now) (l .i) (l .inv .0) (c .before .before .before .loop-test .taken) (l .inv .2) (c .if2 .left))
 
 returns-3 : tie.Need-returns-3 Inv-loop μ-loop
 returns-3 c =

@@ -1,15 +1,22 @@
 -- `characters::part`: the three ways in which a part can lie.
-use mathlib.Core.Path.{_≡_, ap}
-use Prim.Native.Nat.{ℕ, _+_, _-_}
+use mathlib.Core.Path.{_≡_, sym, ap, _∙_}
+use mathlib.Core.List.{List}
+use Prim.Native.Nat.{ℕ, _-_, _≤_}
+use native.Mathlib.Nat.{add-sub-cancel-left}
 use native.Mathlib.Omega.{arith}
-use lib.ListN.{length, take, drop}
-use Rattle.characters.proofs.Strings.{past, rest}
+use lib.ListN.{length, take, drop, length-drop, drop-of-length-le}
+use lib.Seq.{take-all, take-nil}
 use borrow.Author.Needs.{needs}
 use Rattle.characters.proofs.part.Statement.{statement}
 use Rattle.characters.proofs.part.Tie as tie
 
-less : (x n : ℕ) → x + n - x ≡ n
-less x n = omega arith
+-- past the end, and as much as there is
+past : (s : List ℕ) (at n m k : ℕ) → length s ≤ at → length s ≤ k → take m (drop k s) ≡ take n (drop at s)
+past s at n m k h l = rw (drop-of-length-le s h, drop-of-length-le s l, take-nil m, take-nil n)
+
+rest : (s : List ℕ) (at n m : ℕ) → length s - at ≤ n → length s - at ≤ m → take m (drop at s) ≡ take n (drop at s)
+rest s at n m h l =
+    take-all m (drop at s) (omega (arith, length-drop at s)) ∙ sym (take-all n (drop at s) (omega (arith, length-drop at s)))
 
 sub-result : tie.Need-sub-result
 sub-result c = search needs
@@ -57,7 +64,7 @@ returns-2 c =
 returns-3 : tie.Need-returns-3
 returns-3 c =
     let a = c .before .before .before .args in
-    ap (λ (k : ℕ). take k (drop (a .at) (a .s .now))) (less (a .at) (a .n))
+    ap (λ (k : ℕ). take k (drop (a .at) (a .s .now))) (add-sub-cancel-left (a .at) (a .n))
 
 pub part-spec : {M : Type 1} → statement M
 part-spec =

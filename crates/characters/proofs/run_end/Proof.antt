@@ -35,12 +35,14 @@ loop-less c = search needs
 loop-again : tie.Need-loop-again Inv-loop μ-loop
 loop-again c =
     let a = c .before .before .before .before .before .before .args in
-    c .before .before .before .before .loop .inv ∙ goes-on (a .class) (a .s .now) (c .before .before .before .before .loop .i) (c .before .before .before .loop-test .taken) (sym (c .before .is-of .ensures) ∙ c .if1 .taken)
+    let l = c .before .before .before .before .loop in
+    l .inv ∙ goes-on (a .class) (a .s .now) (l .i) (c .before .before .before .loop-test .taken) (sym (c .before .is-of .ensures) ∙ c .if1 .taken)
 
 returns : tie.Need-returns Inv-loop μ-loop
 returns c =
     let a = c .before .before .before .before .before .before .args in
-    sym (c .before .before .before .before .loop .inv ∙ stops (a .class) (a .s .now) (c .before .before .before .before .loop .i) (c .before .before .before .loop-test .taken) (sym (c .before .is-of .ensures) ∙ c .if1 .left))
+    let l = c .before .before .before .before .loop in
+    sym (l .inv ∙ stops (a .class) (a .s .now) (l .i) (c .before .before .before .loop-test .taken) (sym (c .before .is-of .ensures) ∙ c .if1 .left))
 
 returns-2 : tie.Need-returns-2 Inv-loop μ-loop
 returns-2 c =

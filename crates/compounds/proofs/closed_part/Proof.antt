@@ -17,31 +17,56 @@ byte-requires c κs = search needs
 
 returns : tie.Need-returns
 returns c =
-    left-open (c .before .before .before .before .args .s .now) (c .before .before .before .before .args .close) (c .before .before .before .before .args .c) (c .before .before .before .before .args .width) (c .before .before .before .before .args .code .now) (c .before .before .before .before .args .c .place + 1) (c .before .before .before .before .args .c .words + 1) (c .before .before .before .before .args .c .pieces + 1) (c .before .before .before .before .args .code .now) (off-mark (c .before .before .before .before .args .s .now) (c .before .before .before .before .args .c .place) (c .before .before .skip-spaces .result) (c .before .byte .result) (c .before .before .before .before .args .close) (c .before .before .skip-spaces .ensures) (c .before .byte .ensures) (c .if1 .taken))
+    let a = c .before .before .before .before .args in
+    let end = c .before .before .skip-spaces in
+    let byte = c .before .byte in
+    left-open (a .s .now) (a .close) (a .c) (a .width) (a .code .now) (a .c .place + 1) (a .c .words + 1) (a .c .pieces + 1) (a .code .now)
+    (off-mark (a .s .now) (a .c .place) (end .result) (byte .result) (a .close) (end .ensures) (byte .ensures) (c .if1 .taken))
 
 emit-requires : tie.Need-emit-requires
 emit-requires c κs = search needs
 
 add-one-more : tie.Need-add-one-more
 add-one-more c =
-    omega (arith, present (c .before .before .before .before .before .before .before .args .s .now) (c .before .before .before .before .before .skip-spaces .result) (c .before .before .before .before .before .before .before .args .close) (sym (c .before .before .before .before .byte .ensures) ∙ c .before .before .before .if1 .left) (c .before .before .before .before .before .before .before .pre .1 .1 .1 .1))
+    let entry = c .before .before .before .before .before .before .before in
+    let a = entry .args in
+    omega (arith, present (a .s .now) (c .before .before .before .before .before .skip-spaces .result) (a .close) (sym (c .before .before .before .before .byte .ensures) ∙ c .before .before .before .if1 .left) (entry .pre .1 .1 .1 .1))
 
 one-more-requires : tie.Need-one-more-requires
 one-more-requires c κs = search needs
 
 add-t14 : tie.Need-add-t14
 add-t14 c =
-    omega (arith, present (c .before .before .before .before .before .args .s .now) (c .before .before .before .skip-spaces .result) (c .before .before .before .before .before .args .close) (sym (c .before .before .byte .ensures) ∙ c .before .if1 .left) (c .before .before .before .before .before .pre .1 .1 .1 .1))
+    let entry = c .before .before .before .before .before in
+    let a = entry .args in
+    omega (arith, present (a .s .now) (c .before .before .before .skip-spaces .result) (a .close) (sym (c .before .before .byte .ensures) ∙ c .before .if1 .left) (entry .pre .1 .1 .1 .1))
 
 returns-2 : tie.Need-returns-2
 returns-2 c =
-    rw (c .one-more .ensures, c .before .emit .ensures, c .before .before .before .before .before .before .skip-spaces .ensures)
-    (square (c .before .before .before .before .before .before .before .before .args .s .now) (c .before .before .before .before .before .before .before .before .args .close) (c .before .before .before .before .before .before .before .before .args .c) (c .before .before .before .before .before .before .before .before .args .width) (c .before .before .before .before .before .before .before .before .args .code .now) (at-mark (c .before .before .before .before .before .before .before .before .args .s .now) (c .before .before .before .before .before .before .before .before .args .c .place) (c .before .before .before .before .before .before .skip-spaces .result) (c .before .before .before .before .before .byte .result) (c .before .before .before .before .before .before .before .before .args .close) (c .before .before .before .before .before .before .skip-spaces .ensures) (c .before .before .before .before .before .byte .ensures) (c .before .before .before .before .if1 .left)) (eq-eqb (c .before .before .before .before .before .before .before .before .args .close) 93 (c .before .before .before .if2 .taken)) (rw (c .before .before .before .before .before .before .skip-spaces .ensures) at (present (c .before .before .before .before .before .before .before .before .args .s .now) (c .before .before .before .before .before .before .skip-spaces .result) (c .before .before .before .before .before .before .before .before .args .close) (sym (c .before .before .before .before .before .byte .ensures) ∙ c .before .before .before .before .if1 .left) (c .before .before .before .before .before .before .before .before .pre .1 .1 .1 .1))))
+    let entry = c .before .before .before .before .before .before .before .before in
+    let a = entry .args in
+    let end = c .before .before .before .before .before .before .skip-spaces in
+    let byte = c .before .before .before .before .before .byte in
+    let same = c .before .before .before .before .if1 .left in
+    rw (c .one-more .ensures, c .before .emit .ensures, end .ensures)
+    (square (a .s .now) (a .close) (a .c) (a .width) (a .code .now)
+    (at-mark (a .s .now) (a .c .place) (end .result) (byte .result) (a .close) (end .ensures) (byte .ensures) same)
+    (eq-eqb (a .close) 93 (c .before .before .before .if2 .taken))
+    (rw (end .ensures) at (present (a .s .now) (end .result) (a .close) (sym (byte .ensures) ∙ same) (entry .pre .1 .1 .1 .1))))
 
 returns-3 : tie.Need-returns-3
 returns-3 c =
-    rw (c .before .before .before .skip-spaces .ensures)
-    (round (c .before .before .before .before .before .args .s .now) (c .before .before .before .before .before .args .close) (c .before .before .before .before .before .args .c) (c .before .before .before .before .before .args .width) (c .before .before .before .before .before .args .code .now) (at-mark (c .before .before .before .before .before .args .s .now) (c .before .before .before .before .before .args .c .place) (c .before .before .before .skip-spaces .result) (c .before .before .byte .result) (c .before .before .before .before .before .args .close) (c .before .before .before .skip-spaces .ensures) (c .before .before .byte .ensures) (c .before .if1 .left)) (ne-eqb (c .before .before .before .before .before .args .close) 93 (c .if2 .left)) (rw (c .before .before .before .skip-spaces .ensures) at (present (c .before .before .before .before .before .args .s .now) (c .before .before .before .skip-spaces .result) (c .before .before .before .before .before .args .close) (sym (c .before .before .byte .ensures) ∙ c .before .if1 .left) (c .before .before .before .before .before .pre .1 .1 .1 .1))) (c .before .before .before .before .before .pre .1 .1 .1 .0))
+    let entry = c .before .before .before .before .before in
+    let a = entry .args in
+    let end = c .before .before .before .skip-spaces in
+    let byte = c .before .before .byte in
+    let same = c .before .if1 .left in
+    rw (end .ensures)
+    (round (a .s .now) (a .close) (a .c) (a .width) (a .code .now)
+    (at-mark (a .s .now) (a .c .place) (end .result) (byte .result) (a .close) (end .ensures) (byte .ensures) same)
+    (ne-eqb (a .close) 93 (c .if2 .left))
+    (rw (end .ensures) at (present (a .s .now) (end .result) (a .close) (sym (byte .ensures) ∙ same) (entry .pre .1 .1 .1 .1)))
+    (entry .pre .1 .1 .1 .0))
 
 pub closed-part-spec : {M : Type 1} → statement M
 closed-part-spec =

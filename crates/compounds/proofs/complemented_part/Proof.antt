@@ -1,5 +1,5 @@
 -- `compounds::complemented_part`: Not puts one word behind its operand.
-use Rattle.compounds.proofs.Making.{turned-over}
+use Rattle.compounds.proofs.Making.{under-not}
 use borrow.Author.Needs.{needs}
 use Rattle.compounds.proofs.complemented_part.Statement.{statement}
 use Rattle.compounds.proofs.complemented_part.Tie as tie
@@ -12,7 +12,8 @@ one-more-requires c κs = search needs
 
 returns : tie.Need-returns
 returns c =
-    rw (c .one-more .ensures, c .before .emit .ensures) (turned-over (c .before .before .before .args .c) (c .before .before .before .args .width) (c .before .before .before .args .code .now))
+    let a = c .before .before .before .args in
+    rw (c .one-more .ensures, c .before .emit .ensures) (under-not (a .c) (a .width) (a .code .now))
 
 pub complemented-part-spec : {M : Type 1} → statement M
 complemented-part-spec = tie.close (tie.spec emit-requires one-more-requires returns)

@@ -12,7 +12,10 @@ width-by-requires c κs = search needs
 
 returns : tie.Need-returns
 returns c =
-    joins-not (c .before .before .before .args .row) (c .before .before .before .args .left) (c .before .before .before .args .width) (c .before .before .before .args .right) (c .before .before .before .args .other) (c .before .before .before .args .code .now) (c .before .before .before .args .code .now) (c .before .before .before .pre .0) (rw (c .before .width-by .ensures, c .before .before .entry-in .ensures) at (c .if1 .taken))
+    let entry = c .before .before .before in
+    let a = entry .args in
+    joins-not (a .row) (a .left) (a .width) (a .right) (a .other) (a .code .now) (a .code .now) (entry .pre .0)
+    (rw (c .before .width-by .ensures, c .before .before .entry-in .ensures) at (c .if1 .taken))
 
 cast-emit : tie.Need-cast-emit
 cast-emit c = search needs
@@ -28,8 +31,12 @@ one-more-requires c κs = search needs
 
 returns-2 : tie.Need-returns-2
 returns-2 c =
-    rw (c .one-more .ensures, c .before .emit .ensures, c .before .before .before .before .width-by .ensures, c .before .before .before .before .before .entry-in .ensures)
-    (joins (c .before .before .before .before .before .before .args .row) (c .before .before .before .before .before .before .args .left) (c .before .before .before .before .before .before .args .width) (c .before .before .before .before .before .before .args .right) (c .before .before .before .before .before .before .args .other) (c .before .before .before .before .before .before .args .code .now) (c .before .before .before .before .before .before .pre .0) (rw (c .before .before .before .before .width-by .ensures, c .before .before .before .before .before .entry-in .ensures) at (c .before .before .before .if1 .left)))
+    let entry = c .before .before .before .before .before .before in
+    let a = entry .args in
+    let width = c .before .before .before .before .width-by .ensures in
+    let row = c .before .before .before .before .before .entry-in .ensures in
+    rw (c .one-more .ensures, c .before .emit .ensures, width, row)
+    (joins (a .row) (a .left) (a .width) (a .right) (a .other) (a .code .now) (entry .pre .0) (rw (width, row) at (c .before .before .before .if1 .left)))
 
 pub joined-part-spec : {M : Type 1} → statement M
 joined-part-spec =

@@ -1,8 +1,10 @@
 -- `compounds::rotated_part`: a rotation is one word, and its count one piece of two.
-use mathlib.Core.Path.{sym, ap, _∙_}
-use Prim.Native.Nat.{_+_}
+use mathlib.Core.Path.{_≡_, sym, ap, _∙_}
+use mathlib.Core.List.{List}
+use Prim.Native.Nat.{ℕ, _+_}
 use native.Mathlib.Omega.{arith}
 use Rattle.constants.specs.Constants.{decimalAt}
+use Rattle.constants.specs.declared.Number.{Number}
 use Rattle.characters.specs.declared.Class.the-variants.{Space}
 use Rattle.characters.proofs.Runs.{onward}
 use Rattle.tokens.specs.Tokens.{skip}
@@ -11,6 +13,10 @@ use Rattle.compounds.proofs.Making.{rotates, large-count, no-count}
 use borrow.Author.Needs.{needs}
 use Rattle.compounds.proofs.rotated_part.Statement.{statement}
 use Rattle.compounds.proofs.rotated_part.Tie as tie
+
+-- the count, as the code finds it
+counts : (s : List ℕ) (at : ℕ) {e : ℕ} {x y : Number} → e ≡ skip s at → x ≡ decimalAt s e → x ≡ y → decimalAt s (skip s at) ≡ y
+counts s at skipped read is = ap (decimalAt s) (sym skipped) ∙ sym read ∙ is
 
 skip-spaces-requires : tie.Need-skip-spaces-requires
 skip-spaces-requires c κs = search needs
@@ -41,18 +47,27 @@ enum-told c = search needs
 
 returns : tie.Need-returns
 returns c =
-    let e = ap (decimalAt (c .before .before .before .before .before .before .before .before .before .before .before .args .s .now)) (sym (c .before .before .before .before .before .before .before .before .before .skip-spaces .ensures)) ∙ sym (c .before .before .before .before .before .before .before .before .decimal-at .ensures) ∙ c .before .before .before .before .before .before .value .given .1 in
-    let o = decimal-past (c .before .before .before .before .before .before .before .before .before .before .before .args .s .now) (skip (c .before .before .before .before .before .before .before .before .before .before .before .args .s .now) (c .before .before .before .before .before .before .before .before .before .before .before .args .at)) (c .before .before .before .before .before .before .value .given .0 .0) (c .before .before .before .before .before .before .value .given .0 .1 .0) e in
+    let entry = c .before .before .before .before .before .before .before .before .before .before .before in
+    let a = entry .args in
+    let count = c .before .before .before .before .before .before .value .given in
+    let e = counts (a .s .now) (a .at) (c .before .before .before .before .before .before .before .before .before .skip-spaces .ensures) (c .before .before .before .before .before .before .before .before .decimal-at .ensures) (count .1) in
+    let o = decimal-past (a .s .now) (skip (a .s .now) (a .at)) e in
     rw (c .before .before .emit .ensures)
-    (rotates (c .before .before .before .before .before .before .before .before .before .before .before .args .s .now) (c .before .before .before .before .before .before .before .before .before .before .before .args .row) (c .before .before .before .before .before .before .before .before .before .before .before .args .at) (c .before .before .before .before .before .before .before .before .before .before .before .args .c) (c .before .before .before .before .before .before .before .before .before .before .before .args .width) (c .before .before .before .before .before .before .before .before .before .before .before .args .code .now) (c .before .before .before .before .before .before .value .given .0 .0) (c .before .before .before .before .before .before .value .given .0 .1 .0) e (c .before .before .before .before .if1 .taken) (c .before .before .before .before .before .before .before .before .before .before .before .pre .1 .0) (c .before .before .before .before .before .before .before .before .before .before .before .pre .1 .1 .0) (omega (arith, onward Space (c .before .before .before .before .before .before .before .before .before .before .before .args .s .now) (c .before .before .before .before .before .before .before .before .before .before .before .args .at))) (c .before .before .before .before .before .before .before .before .before .before .before .pre .1 .1 .1 .0))
+    (rotates (a .s .now) (a .row) (a .at) (a .c) (a .width) (a .code .now) (count .0 .0) (count .0 .1 .0) e (c .before .before .before .before .if1 .taken) (entry .pre .1 .0) (entry .pre .1 .1 .0) (omega (arith, onward Space (a .s .now) (a .at))) (entry .pre .1 .1 .1 .0))
 
 returns-2 : tie.Need-returns-2
 returns-2 c =
-    large-count (c .before .before .before .before .before .before .before .args .s .now) (c .before .before .before .before .before .before .before .args .row) (c .before .before .before .before .before .before .before .args .at) (c .before .before .before .before .before .before .before .args .c) (c .before .before .before .before .before .before .before .args .width) (c .before .before .before .before .before .before .before .args .code .now) (c .before .before .before .before .before .before .before .args .at + 1) (c .before .before .before .before .before .before .before .args .c .words + 2) (c .before .before .before .before .before .before .before .args .c .pieces + 2) (c .before .before .before .before .before .before .before .args .code .now) (c .before .before .value .given .0 .0) (c .before .before .value .given .0 .1 .0) (ap (decimalAt (c .before .before .before .before .before .before .before .args .s .now)) (sym (c .before .before .before .before .before .skip-spaces .ensures)) ∙ sym (c .before .before .before .before .decimal-at .ensures) ∙ c .before .before .value .given .1) (c .if1 .left)
+    let a = c .before .before .before .before .before .before .before .args in
+    let count = c .before .before .value .given in
+    large-count (a .s .now) (a .row) (a .at) (a .c) (a .width) (a .code .now) (a .at + 1) (a .c .words + 2) (a .c .pieces + 2) (a .code .now) (count .0 .0) (count .0 .1 .0)
+    (counts (a .s .now) (a .at) (c .before .before .before .before .before .skip-spaces .ensures) (c .before .before .before .before .decimal-at .ensures) (count .1))
+    (c .if1 .left)
 
 returns-3 : tie.Need-returns-3
 returns-3 c =
-    no-count (c .before .before .before .before .before .args .s .now) (c .before .before .before .before .before .args .row) (c .before .before .before .before .before .args .at) (c .before .before .before .before .before .args .c) (c .before .before .before .before .before .args .width) (c .before .before .before .before .before .args .code .now) (c .before .before .before .before .before .args .at + 1) (c .before .before .before .before .before .args .c .words + 2) (c .before .before .before .before .before .args .c .pieces + 2) (c .before .before .before .before .before .args .code .now) (ap (decimalAt (c .before .before .before .before .before .args .s .now)) (sym (c .before .before .before .skip-spaces .ensures)) ∙ sym (c .before .before .decimal-at .ensures) ∙ c .enum-told .given .1)
+    let a = c .before .before .before .before .before .args in
+    no-count (a .s .now) (a .row) (a .at) (a .c) (a .width) (a .code .now) (a .at + 1) (a .c .words + 2) (a .c .pieces + 2) (a .code .now)
+    (counts (a .s .now) (a .at) (c .before .before .before .skip-spaces .ensures) (c .before .before .decimal-at .ensures) (c .enum-told .given .1))
 
 pub rotated-part-spec : {M : Type 1} → statement M
 rotated-part-spec =

@@ -3,14 +3,15 @@ use mathlib.Core.Path.{sym, ap, _∙_}
 use lib.ListN.{getD}
 use borrow.Author.Tests.{eq-eqb, ne-eqb}
 use Rattle.constants.specs.Constants.{constantAt, ofDecimal}
-use Rattle.constants.proofs.Digits.{constant-past}
+use Rattle.constants.proofs.Digits.{no-constant}
 use borrow.Author.Needs.{needs}
 use Rattle.constants.proofs.constant_at.Statement.{statement}
 use Rattle.constants.proofs.constant_at.Tie as tie
 
 returns : tie.Need-returns
 returns c =
-    sym (constant-past (c .before .before .args .s .now) (c .before .before .args .at) (c .if1 .taken))
+    let a = c .before .before .args in
+    sym (no-constant (a .s .now) (a .at) (c .if1 .taken))
 
 shared-slice-read-mark : tie.Need-shared-slice-read-mark
 shared-slice-read-mark c = search needs
@@ -24,7 +25,8 @@ binary-at-requires c κs = search needs
 returns-2 : tie.Need-returns-2
 unfolding constantAt
 returns-2 c =
-    c .binary-at .ensures ∙ sym (rw (eq-eqb (getD (c .before .before .before .before .before .args .s .now) (c .before .before .before .before .before .args .at) 0) 39 (c .before .if2 .taken), constantAt))
+    let a = c .before .before .before .before .before .args in
+    c .binary-at .ensures ∙ sym (rw (eq-eqb (getD (a .s .now) (a .at) 0) 39 (c .before .if2 .taken), constantAt))
 
 add-octal-at : tie.Need-add-octal-at
 add-octal-at c = search needs
@@ -35,7 +37,9 @@ octal-at-requires c κs = search needs
 returns-3 : tie.Need-returns-3
 unfolding constantAt
 returns-3 c =
-    c .octal-at .ensures ∙ sym (rw (ne-eqb (getD (c .before .before .before .before .before .before .args .s .now) (c .before .before .before .before .before .before .args .at) 0) 39 (c .before .before .if2 .left), eq-eqb (getD (c .before .before .before .before .before .before .args .s .now) (c .before .before .before .before .before .before .args .at) 0) 35 (c .before .if3 .taken), constantAt))
+    let a = c .before .before .before .before .before .before .args in
+    let mark = getD (a .s .now) (a .at) 0 in
+    c .octal-at .ensures ∙ sym (rw (ne-eqb mark 39 (c .before .before .if2 .left), eq-eqb mark 35 (c .before .if3 .taken), constantAt))
 
 decimal-at-requires : tie.Need-decimal-at-requires
 decimal-at-requires c κs = search needs
@@ -46,7 +50,11 @@ from-decimal-requires c κs = search needs
 returns-4 : tie.Need-returns-4
 unfolding constantAt
 returns-4 c =
-    c .from-decimal .ensures ∙ ap ofDecimal (c .before .decimal-at .ensures) ∙ sym (rw (ne-eqb (getD (c .before .before .before .before .before .before .before .args .s .now) (c .before .before .before .before .before .before .before .args .at) 0) 39 (c .before .before .before .if2 .left), ne-eqb (getD (c .before .before .before .before .before .before .before .args .s .now) (c .before .before .before .before .before .before .before .args .at) 0) 35 (c .before .before .if3 .left), constantAt))
+    let a = c .before .before .before .before .before .before .before .args in
+    let mark = getD (a .s .now) (a .at) 0 in
+    c .from-decimal .ensures
+    ∙ ap ofDecimal (c .before .decimal-at .ensures)
+    ∙ sym (rw (ne-eqb mark 39 (c .before .before .before .if2 .left), ne-eqb mark 35 (c .before .before .if3 .left), constantAt))
 
 pub constant-at-spec : {M : Type 1} → statement M
 constant-at-spec =

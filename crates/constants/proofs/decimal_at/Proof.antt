@@ -10,27 +10,23 @@ use Rattle.characters.specs.Characters.{runEnd}
 use Rattle.constants.specs.Constants.{numberAt, decimalDigits, largest, isPlain}
 use Rattle.characters.specs.declared.Class.the-variants.{Word}
 use Rattle.characters.proofs.Runs.{after-start, before-end}
-use Rattle.constants.proofs.Digits.{plain, too-large, not-plain, decimal-past}
+use Rattle.constants.proofs.Digits.{plain, too-large, not-plain, no-decimal}
 use Rattle.characters.proofs.Tests.{and-left, and-right}
 use borrow.Author.Needs.{needs}
 use Rattle.constants.proofs.decimal_at.Statement.{statement}
 use Rattle.constants.proofs.decimal_at.Tie as tie
 
+-- a decimal that is not too long
 upper : (d : Bool) (at digits end first : ℕ) → d && isPlain first at digits end ≡ true → end ≤ at + decimalDigits
 upper d at digits end first t =
     leb-true end (at + decimalDigits)
     (and-right (eqb digits end) (leb end (at + decimalDigits))
     (and-left (eqb digits end && leb end (at + decimalDigits)) (not (eqb first 48) || eqb end (at + 1)) (and-right d (isPlain first at digits end) t)))
 
-inside : (at n : ℕ) → at < n → at ≤ n
-inside at n h = omega arith
-
-within : (at end n : ℕ) → at ≤ end → end ≤ n → end ≤ at + decimalDigits → (at + (end - at) ≤ n) × ((end - at ≤ 16) × (10 ≤ 10))
-within at end n p q r = (omega arith, (omega arith, omega arith))
-
 returns : tie.Need-returns
 returns c =
-    sym (decimal-past (c .before .before .args .s .now) (c .before .before .args .at) (c .if1 .taken))
+    let a = c .before .before .args in
+    sym (no-decimal (a .s .now) (a .at) (c .if1 .taken))
 
 shared-slice-read-first : tie.Need-shared-slice-read-first
 shared-slice-read-first c = search needs
@@ -52,16 +48,16 @@ is-digit-requires c κs = search needs
 
 sub-digits-value : tie.Need-sub-digits-value
 sub-digits-value c =
-    after-start Word (c .before .before .before .before .before .before .before .args .s .now) (c .before .before .before .before .before .before .before .args .at) (c .before .before .before .run-end .result) (c .before .before .before .run-end .ensures)
+    let a = c .before .before .before .before .before .before .before .args in
+    let end = c .before .before .before .run-end in
+    after-start Word (a .s .now) (a .at) (end .result) (end .ensures)
 
 digits-value-requires : tie.Need-digits-value-requires
 digits-value-requires c κs =
     let a = c .before .before .before .before .before .before .before .args in
     let end = c .before .before .before .run-end in
-    within (a .at) (end .result) (length (a .s .now))
-    (after-start Word (a .s .now) (a .at) (end .result) (end .ensures))
-    (before-end Word (a .s .now) (a .at) (end .result) (end .ensures) (inside (a .at) (length (a .s .now)) (c .before .before .before .before .before .if1 .left)))
-    (upper (c .before .is-digit .result) (a .at) (c .before .before .run-end2 .result) (end .result) (getD (a .s .now) (a .at) 0) (c .if2 .taken))
+    let start : a .at < length (a .s .now) = c .before .before .before .before .before .if1 .left in
+    omega (arith, after-start Word (a .s .now) (a .at) (end .result) (end .ensures), before-end Word (a .s .now) (a .at) (end .result) (end .ensures) (omega arith), upper (c .before .is-digit .result) (a .at) (c .before .before .run-end2 .result) (end .result) (getD (a .s .now) (a .at) 0) (c .if2 .taken))
 
 cast-t21 : tie.Need-cast-t21
 cast-t21 c = search needs
@@ -69,16 +65,23 @@ cast-t21 c = search needs
 returns-2 : tie.Need-returns-2
 returns-2 c =
     let a = c .before .before .before .before .before .before .before .before .before .args in
-    rw (c .before .digits-value .ensures, c .before .before .before .before .before .run-end .ensures) (sym (plain (a .s .now) (a .at) (rw (c .before .before .before .is-digit .ensures, c .before .before .before .before .run-end2 .ensures, c .before .before .before .before .before .run-end .ensures) at (c .before .before .if2 .taken)) (le-leb (numberAt 10 (a .s .now) (a .at) (runEnd Word (a .s .now) (a .at) - a .at) 0) largest (rw (c .before .digits-value .ensures, c .before .before .before .before .before .run-end .ensures) at (c .if3 .taken)))))
+    let end = c .before .before .before .before .before .run-end .ensures in
+    let value = c .before .digits-value .ensures in
+    rw (value, end)
+    (sym (plain (a .s .now) (a .at) (rw (c .before .before .before .is-digit .ensures, c .before .before .before .before .run-end2 .ensures, end) at (c .before .before .if2 .taken))
+    (le-leb (numberAt 10 (a .s .now) (a .at) (runEnd Word (a .s .now) (a .at) - a .at) 0) largest (rw (value, end) at (c .if3 .taken)))))
 
 returns-3 : tie.Need-returns-3
 returns-3 c =
     let a = c .before .before .before .before .before .before .before .before .before .args in
-    sym (too-large (a .s .now) (a .at) (rw (c .before .before .before .is-digit .ensures, c .before .before .before .before .run-end2 .ensures, c .before .before .before .before .before .run-end .ensures) at (c .before .before .if2 .taken)) (lt-leb (numberAt 10 (a .s .now) (a .at) (runEnd Word (a .s .now) (a .at) - a .at) 0) largest (rw (c .before .digits-value .ensures, c .before .before .before .before .before .run-end .ensures) at (c .if3 .left))))
+    let end = c .before .before .before .before .before .run-end .ensures in
+    sym (too-large (a .s .now) (a .at) (rw (c .before .before .before .is-digit .ensures, c .before .before .before .before .run-end2 .ensures, end) at (c .before .before .if2 .taken))
+    (lt-leb (numberAt 10 (a .s .now) (a .at) (runEnd Word (a .s .now) (a .at) - a .at) 0) largest (rw (c .before .digits-value .ensures, end) at (c .if3 .left))))
 
 returns-4 : tie.Need-returns-4
 returns-4 c =
-    sym (not-plain (c .before .before .before .before .before .before .before .args .s .now) (c .before .before .before .before .before .before .before .args .at) (rw (c .before .is-digit .ensures, c .before .before .run-end2 .ensures, c .before .before .before .run-end .ensures) at (c .if2 .left)))
+    let a = c .before .before .before .before .before .before .before .args in
+    sym (not-plain (a .s .now) (a .at) (rw (c .before .is-digit .ensures, c .before .before .run-end2 .ensures, c .before .before .before .run-end .ensures) at (c .if2 .left)))
 
 pub decimal-at-spec : {M : Type 1} → statement M
 decimal-at-spec =

@@ -10,6 +10,7 @@ use borrow.Author.Needs.{needs}
 use Rattle.constants.proofs.digits_value.Statement.{statement}
 use Rattle.constants.proofs.digits_value.Tie as tie
 
+-- a digit more: the digits that are left have four bits each of the 64
 next-lt : (left v base d : ℕ) → 0 < left → left ≤ 16 → v < 2 ^ (64 - 4 * left) → base ≤ 10 → d < 16 → v * base + d < 2 ^ (64 - 4 * (left - 1))
 next-lt left v base d p q h b e = subst (λ (k : ℕ). v * base + d < 2 ^ k) exponent (grows (64 - 4 * left) v base d h b e)
   where

@@ -1,13 +1,13 @@
--- `constants::octal_at`: the digits from the place on, 5 at most, of 3 bits each.
+-- `constants::octal_at`: the digits from the place on, of three bits each.
 use mathlib.Core.Path.{sym}
 use native.Mathlib.Omega.{arith}
+use Rattle.constants.specs.Constants.{octalDigits}
 use Rattle.characters.specs.declared.Class.the-variants.{Octal}
 use Rattle.characters.proofs.Runs.{before-end}
-use Rattle.constants.proofs.Digits.{some-digits, few-digits, marked, unmarked, marked-lt, octal-small}
+use Rattle.constants.proofs.Digits.{digits-between, marked, unmarked, marked-lt, octal-small}
 use borrow.Author.Needs.{needs}
 use Rattle.constants.proofs.octal_at.Statement.{statement}
 use Rattle.constants.proofs.octal_at.Tie as tie
-use Rattle.constants.specs.Constants.{octalDigits}
 
 run-end-requires : tie.Need-run-end-requires
 run-end-requires c κs = search needs
@@ -17,35 +17,43 @@ add-if1 c = search needs
 
 sub-digits-value : tie.Need-sub-digits-value
 sub-digits-value c =
-    omega (arith, some-digits (c .before .before .before .args .at) (c .before .run-end .result) octalDigits (c .if1 .taken))
+    omega (arith, digits-between (c .before .before .before .args .at) (c .before .run-end .result) octalDigits (c .if1 .taken))
 
 digits-value-requires : tie.Need-digits-value-requires
 digits-value-requires c κs =
-    omega (arith, some-digits (c .before .before .before .args .at) (c .before .run-end .result) octalDigits (c .if1 .taken), few-digits (c .before .before .before .args .at) (c .before .run-end .result) octalDigits (c .if1 .taken), before-end Octal (c .before .before .before .args .s .now) (c .before .before .before .args .at) (c .before .run-end .result) (c .before .run-end .ensures) (c .before .before .before .pre))
+    let a = c .before .before .before .args in
+    let end = c .before .run-end in
+    omega (arith, digits-between (a .at) (end .result) octalDigits (c .if1 .taken), before-end Octal (a .s .now) (a .at) (end .result) (end .ensures) (c .before .before .before .pre))
 
 cast-t12 : tie.Need-cast-t12
 cast-t12 c =
-    record { fits = rw (c .digits-value .ensures) (marked-lt Octal 3 octal-small (c .before .before .before .before .args .s .now) (c .before .before .before .before .args .at) (c .before .before .run-end .result) (c .before .before .run-end .ensures) (omega (arith, some-digits (c .before .before .before .before .args .at) (c .before .before .run-end .result) octalDigits (c .before .if1 .taken), few-digits (c .before .before .before .before .args .at) (c .before .before .run-end .result) octalDigits (c .before .if1 .taken)))) }
+    let a = c .before .before .before .before .args in
+    let end = c .before .before .run-end in
+    let few = digits-between (a .at) (end .result) octalDigits (c .before .if1 .taken) in
+    record { fits = rw (c .digits-value .ensures) (marked-lt Octal 3 octal-small (a .s .now) (a .at) (end .result) (end .ensures) (omega arith)) }
 
 sub-t13 : tie.Need-sub-t13
 sub-t13 c =
-    omega (arith, some-digits (c .before .before .before .before .args .at) (c .before .before .run-end .result) octalDigits (c .before .if1 .taken))
+    omega (arith, digits-between (c .before .before .before .before .args .at) (c .before .before .run-end .result) octalDigits (c .before .if1 .taken))
 
 mul-t14 : tie.Need-mul-t14
 mul-t14 c =
-    omega (arith, some-digits (c .before .before .before .before .args .at) (c .before .before .run-end .result) octalDigits (c .before .if1 .taken), few-digits (c .before .before .before .before .args .at) (c .before .before .run-end .result) octalDigits (c .before .if1 .taken))
+    omega (arith, digits-between (c .before .before .before .before .args .at) (c .before .before .run-end .result) octalDigits (c .before .if1 .taken))
 
 cast-t15 : tie.Need-cast-t15
 cast-t15 c =
-    omega (arith, some-digits (c .before .before .before .before .args .at) (c .before .before .run-end .result) octalDigits (c .before .if1 .taken), few-digits (c .before .before .before .before .args .at) (c .before .before .run-end .result) octalDigits (c .before .if1 .taken))
+    omega (arith, digits-between (c .before .before .before .before .args .at) (c .before .before .run-end .result) octalDigits (c .before .if1 .taken))
 
 returns : tie.Need-returns
 returns c =
-    rw (c .digits-value .ensures, c .before .before .run-end .ensures) (sym (marked Octal 8 3 octalDigits (c .before .before .before .before .args .s .now) (c .before .before .before .before .args .at) (rw (c .before .before .run-end .ensures) at (c .before .if1 .taken))))
+    let a = c .before .before .before .before .args in
+    let end = c .before .before .run-end .ensures in
+    rw (c .digits-value .ensures, end) (sym (marked Octal 8 3 octalDigits (a .s .now) (a .at) (rw end at (c .before .if1 .taken))))
 
 returns-2 : tie.Need-returns-2
 returns-2 c =
-    sym (unmarked Octal 8 3 octalDigits (c .before .before .before .args .s .now) (c .before .before .before .args .at) (rw (c .before .run-end .ensures) at (c .if1 .left)))
+    let a = c .before .before .before .args in
+    sym (unmarked Octal 8 3 octalDigits (a .s .now) (a .at) (rw (c .before .run-end .ensures) at (c .if1 .left)))
 
 pub octal-at-spec : {M : Type 1} → statement M
 octal-at-spec =

@@ -11,6 +11,7 @@ use Rattle.constants.proofs.shortest_form.Tie as tie
 less : (n : ℕ) → 15 - n - 1 ≡ 15 - (n + 1)
 less n = omega arith
 
+-- the last number of bits is tried
 done : (n v : ℕ) → 15 ≤ n → shortestFrom (15 - n) n v ≡ n
 unfolding shortestFrom
 done n v h =
@@ -34,7 +35,8 @@ is-narrow-requires c κs = search needs
 
 returns : tie.Need-returns Inv-loop μ-loop
 returns c =
-    sym (c .before .before .before .loop .inv .2 ∙ long-enough (15 - c .before .before .before .loop .n) (c .before .before .before .loop .n) (c .before .before .before .before .args .v) (sym (c .before .is-narrow .ensures) ∙ c .if1 .taken))
+    let l = c .before .before .before .loop in
+    sym (l .inv .2 ∙ long-enough (15 - l .n) (l .n) (c .before .before .before .before .args .v) (sym (c .before .is-narrow .ensures) ∙ c .if1 .taken))
 
 add-n : tie.Need-add-n Inv-loop μ-loop
 add-n c = search needs

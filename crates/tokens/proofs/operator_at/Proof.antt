@@ -15,7 +15,8 @@ skip-spaces-requires c κs = search needs
 
 token-end-requires : tie.Need-token-end-requires
 token-end-requires c κs =
-    rw (c .skip-spaces .ensures) (within Space (c .before .before .args .s .now) (c .before .before .args .at) (c .before .before .pre))
+    let entry = c .before .before in
+    rw (c .skip-spaces .ensures) (within Space (entry .args .s .now) (entry .args .at) (entry .pre))
 
 sub-part : tie.Need-sub-part
 sub-part c =
@@ -31,8 +32,9 @@ returns : tie.Need-returns
 unfolding operatorAt
 returns c =
     let s = c .before .before .before .before .before .args .s .now in
+    let start = c .before .before .before .skip-spaces in
     c .operator-row .ensures
-    ∙ ap operatorRow (c .before .part .ensures ∙ ap (λ (e : ℕ). slice s (c .before .before .before .skip-spaces .result) e) (c .before .before .token-end .ensures) ∙ ap (λ (p : ℕ). slice s p (tokenEnd s p)) (c .before .before .before .skip-spaces .ensures))
+    ∙ ap operatorRow (c .before .part .ensures ∙ ap (slice s (start .result)) (c .before .before .token-end .ensures) ∙ ap (λ (p : ℕ). slice s p (tokenEnd s p)) (start .ensures))
 
 pub operator-at-spec : {M : Type 1} → statement M
 operator-at-spec =

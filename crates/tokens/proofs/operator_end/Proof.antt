@@ -12,7 +12,8 @@ skip-spaces-requires c κs = search needs
 
 token-end-requires : tie.Need-token-end-requires
 token-end-requires c κs =
-    rw (c .skip-spaces .ensures) (within Space (c .before .before .args .s .now) (c .before .before .args .at) (c .before .before .pre))
+    let entry = c .before .before in
+    rw (c .skip-spaces .ensures) (within Space (entry .args .s .now) (entry .args .at) (entry .pre))
 
 returns : tie.Need-returns
 unfolding operatorEnd

@@ -20,11 +20,13 @@ add-result c = search needs
 
 returns : tie.Need-returns
 returns c =
-    c .run-end .ensures ∙ sym (word-end (c .before .before .before .before .before .args .s .now) (c .before .before .before .before .before .args .at) (ap isWord (sym (c .before .before .before .byte .ensures)) ∙ sym (c .before .before .is-of .ensures) ∙ c .before .if1 .taken))
+    let a = c .before .before .before .before .before .args in
+    c .run-end .ensures ∙ sym (word-end (a .s .now) (a .at) (ap isWord (sym (c .before .before .before .byte .ensures)) ∙ sym (c .before .before .is-of .ensures) ∙ c .before .if1 .taken))
 
 returns-2 : tie.Need-returns-2
 returns-2 c =
-    sym (sign-end (c .before .before .before .before .args .s .now) (c .before .before .before .before .args .at) (ap isWord (sym (c .before .before .byte .ensures)) ∙ sym (c .before .is-of .ensures) ∙ c .if1 .left))
+    let a = c .before .before .before .before .args in
+    sym (sign-end (a .s .now) (a .at) (ap isWord (sym (c .before .before .byte .ensures)) ∙ sym (c .before .is-of .ensures) ∙ c .if1 .left))
 
 pub token-end-spec : {M : Type 1} → statement M
 token-end-spec =

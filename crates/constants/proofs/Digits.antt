@@ -1,5 +1,5 @@
--- The laws of digits, and of what is read from them: a number grows by at most four bits with a digit, and by a digit's own bits where its
--- base is a power of two; the shortest form; constants behind a mark, and decimals.
+-- The laws of digits: a number grows by at most four bits with a digit, and by a digit's own bits where its base is a power of two; the shortest
+-- form; how many digits stand behind a mark; and past a text's end there are none.
 -- Assumes nothing.
 use mathlib.Core.Path.{_≡_, refl, sym, ap, subst, _∙_}
 use mathlib.Core.Bool.{true, false, _&&_}
@@ -13,13 +13,13 @@ use lib.Pow.{pow-add, pow-mono}
 use lib.Dec.{eqb, leb, ltb}
 use lib.ListN.{length, getD, List·getD-eq-default}
 use borrow.Author.Tests.{leb-true, ltb-true}
-use Rattle.characters.specs.Characters.{isDigit, belongs, runEnd}
-use Rattle.constants.specs.Constants.{numberAt, shortestFrom, isPlain, largest, decimalAt, markedAt, ofDecimal, constantAt}
+use Rattle.characters.specs.Characters.{belongs, runEnd}
+use Rattle.constants.specs.Constants.{numberAt, shortestFrom, decimalAt, ofDecimal, constantAt}
 use Rattle.word.specs.Word.{fits}
 use Rattle.characters.specs.declared.Class.{Class}
-use Rattle.characters.specs.declared.Class.the-variants.{Word, Binary, Octal, Decimal}
-use Rattle.constants.specs.declared.Number.the-variants.{Plain, Unread}
-use Rattle.constants.specs.declared.Constant.the-variants.{Found, Missing}
+use Rattle.characters.specs.declared.Class.the-variants.{Binary, Octal}
+use Rattle.constants.specs.declared.Number.the-variants.{Unread}
+use Rattle.constants.specs.declared.Constant.the-variants.{Missing}
 use Rattle.characters.proofs.Runs.{first-of, onward}
 use Rattle.characters.proofs.Tests.{and-left, and-right, by-test}
 
@@ -82,17 +82,6 @@ shortest-le (suc f) n v =
     let step : shortestFrom (suc f) n v ≡ shortestFrom f (n + 1) v = rw (e, shortestFrom) in
     omega arith)
 
--- a constant behind its mark, and none
-module _ (k : Class) (base size most : ℕ) (s : List ℕ) (at : ℕ) where
-  pub marked : ltb at (runEnd k s at) && leb (runEnd k s at) (at + most) ≡ true
-      → markedAt k base size most s at ≡ Found (numberAt base s at (runEnd k s at - at) 0) (size * (runEnd k s at - at)) (runEnd k s at)
-  unfolding markedAt
-  marked t = rw (t, markedAt)
-
-  pub unmarked : ltb at (runEnd k s at) && leb (runEnd k s at) (at + most) ≡ false → markedAt k base size most s at ≡ Missing
-  unfolding markedAt
-  unmarked t = rw (t, markedAt)
-
 -- how many digits stand behind a mark
 pub digits-between : (at r most : ℕ) → ltb at r && leb r (at + most) ≡ true → (at < r) × (r ≤ at + most)
 digits-between at r most t =
@@ -107,33 +96,16 @@ marked-lt k size small s at r e h =
     let p : 2 ^ (0 + size * (r - at)) ≤ 2 ^ 16 = pow-mono {i = 0 + size * (r - at)} {j = 16} (omega arith) in
     omega arith
 
--- a decimal, one that is too large, and none
-module _ (s : List ℕ) (at : ℕ) where
-  pub plain : isDigit (getD s at 0) && isPlain (getD s at 0) at (runEnd Decimal s at) (runEnd Word s at) ≡ true
-      → leb (numberAt 10 s at (runEnd Word s at - at) 0) largest ≡ true
-      → decimalAt s at ≡ Plain (numberAt 10 s at (runEnd Word s at - at) 0) (runEnd Word s at)
+-- past the end stands neither a decimal nor another constant
+module _ (s : List ℕ) (at : ℕ) (h : length s ≤ at) where
+  pub no-decimal : decimalAt s at ≡ Unread
   unfolding decimalAt
-  plain t u = rw (t, u, decimalAt)
+  no-decimal = rw (List·getD-eq-default s 0 h, decimalAt)
 
-  pub too-large : isDigit (getD s at 0) && isPlain (getD s at 0) at (runEnd Decimal s at) (runEnd Word s at) ≡ true
-      → leb (numberAt 10 s at (runEnd Word s at - at) 0) largest ≡ false
-      → decimalAt s at ≡ Unread
-  unfolding decimalAt
-  too-large t u = rw (t, u, decimalAt)
-
-  pub not-plain : isDigit (getD s at 0) && isPlain (getD s at 0) at (runEnd Decimal s at) (runEnd Word s at) ≡ false → decimalAt s at ≡ Unread
-  unfolding decimalAt
-  not-plain t = rw (t, decimalAt)
-
-  -- past the end stands neither a decimal nor another constant
-  pub no-decimal : length s ≤ at → decimalAt s at ≡ Unread
-  unfolding decimalAt
-  no-decimal h = rw (List·getD-eq-default s 0 h, decimalAt)
-
-  pub no-constant : length s ≤ at → constantAt s at ≡ Missing
+  pub no-constant : constantAt s at ≡ Missing
   unfolding constantAt ofDecimal
-  no-constant h =
+  no-constant =
       let z : getD s at 0 ≡ 0 = List·getD-eq-default s 0 h in
       let no-quote : eqb (getD s at 0) 39 ≡ false = ap (λ (x : ℕ). eqb x 39) z in
       let no-number-sign : eqb (getD s at 0) 35 ≡ false = ap (λ (x : ℕ). eqb x 35) z in
-      rw (no-quote, no-number-sign, constantAt) (ap ofDecimal (no-decimal h))
+      rw (no-quote, no-number-sign, constantAt) (ap ofDecimal no-decimal)

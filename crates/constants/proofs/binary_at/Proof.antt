@@ -1,14 +1,12 @@
 -- `constants::binary_at`: the digits from the place on, of one bit each.
-use mathlib.Core.Path.{sym, ap, _∙_}
-use Prim.Native.Nat.{ℕ, _-_}
-use native.Mathlib.Omega.{arith}
+use Prim.Native.Nat.{_-_}
 use native.Mathlib.Nat.{one-mul}
+use native.Mathlib.Omega.{arith}
 use Rattle.characters.specs.Characters.{runEnd}
-use Rattle.constants.specs.Constants.{numberAt, binaryDigits}
+use Rattle.constants.specs.Constants.{binaryDigits, markedAt}
 use Rattle.characters.specs.declared.Class.the-variants.{Binary}
-use Rattle.constants.specs.declared.Constant.the-variants.{Found}
 use Rattle.characters.proofs.Runs.{before-end}
-use Rattle.constants.proofs.Digits.{digits-between, marked, unmarked, marked-lt, binary-small}
+use Rattle.constants.proofs.Digits.{digits-between, marked-lt, binary-small}
 use borrow.Author.Needs.{needs}
 use Rattle.constants.proofs.binary_at.Statement.{statement}
 use Rattle.constants.proofs.binary_at.Tie as tie
@@ -45,17 +43,18 @@ cast-t14 c =
     omega (arith, digits-between (c .before .before .before .before .args .at) (c .before .before .run-end .result) binaryDigits (c .before .if1 .taken))
 
 returns : tie.Need-returns
+unfolding markedAt
 returns c =
     let a = c .before .before .before .before .args in
     let end = c .before .before .run-end .ensures in
-    let last = runEnd Binary (a .s .now) (a .at) in
-    rw (c .digits-value .ensures, end)
-    (sym (marked Binary 2 1 binaryDigits (a .s .now) (a .at) (rw end at (c .before .if1 .taken)) ∙ ap (λ (w : ℕ). Found (numberAt 2 (a .s .now) (a .at) (last - a .at) 0) w last) (one-mul (last - a .at))))
+    let t = rw end at (c .before .if1 .taken) in
+    rw (c .digits-value .ensures, end, t, markedAt, one-mul (runEnd Binary (a .s .now) (a .at) - a .at))
 
 returns-2 : tie.Need-returns-2
+unfolding markedAt
 returns-2 c =
-    let a = c .before .before .before .args in
-    sym (unmarked Binary 2 1 binaryDigits (a .s .now) (a .at) (rw (c .before .run-end .ensures) at (c .if1 .left)))
+    let t = rw (c .before .run-end .ensures) at (c .if1 .left) in
+    rw (t, markedAt)
 
 pub binary-at-spec : {M : Type 1} → statement M
 binary-at-spec =

@@ -7,10 +7,10 @@ use borrow.Author.Tests.{leb-true, le-leb, lt-leb}
 use lib.Dec.{eqb, leb}
 use lib.ListN.{length, getD}
 use Rattle.characters.specs.Characters.{runEnd}
-use Rattle.constants.specs.Constants.{numberAt, decimalDigits, largest, isPlain}
+use Rattle.constants.specs.Constants.{numberAt, decimalDigits, largest, isPlain, decimalAt}
 use Rattle.characters.specs.declared.Class.the-variants.{Word}
 use Rattle.characters.proofs.Runs.{after-start, before-end}
-use Rattle.constants.proofs.Digits.{plain, too-large, not-plain, no-decimal}
+use Rattle.constants.proofs.Digits.{no-decimal}
 use Rattle.characters.proofs.Tests.{and-left, and-right}
 use borrow.Author.Needs.{needs}
 use Rattle.constants.proofs.decimal_at.Statement.{statement}
@@ -63,25 +63,29 @@ cast-t21 : tie.Need-cast-t21
 cast-t21 c = search needs
 
 returns-2 : tie.Need-returns-2
+unfolding decimalAt
 returns-2 c =
     let a = c .before .before .before .before .before .before .before .before .before .args in
     let end = c .before .before .before .before .before .run-end .ensures in
     let value = c .before .digits-value .ensures in
-    rw (value, end)
-    (sym (plain (a .s .now) (a .at) (rw (c .before .before .before .is-digit .ensures, c .before .before .before .before .run-end2 .ensures, end) at (c .before .before .if2 .taken))
-    (le-leb (numberAt 10 (a .s .now) (a .at) (runEnd Word (a .s .now) (a .at) - a .at) 0) largest (rw (value, end) at (c .if3 .taken)))))
+    let t = rw (c .before .before .before .is-digit .ensures, c .before .before .before .before .run-end2 .ensures, end) at (c .before .before .if2 .taken) in
+    let u = le-leb (numberAt 10 (a .s .now) (a .at) (runEnd Word (a .s .now) (a .at) - a .at) 0) largest (rw (value, end) at (c .if3 .taken)) in
+    rw (value, end, t, u, decimalAt)
 
 returns-3 : tie.Need-returns-3
+unfolding decimalAt
 returns-3 c =
     let a = c .before .before .before .before .before .before .before .before .before .args in
     let end = c .before .before .before .before .before .run-end .ensures in
-    sym (too-large (a .s .now) (a .at) (rw (c .before .before .before .is-digit .ensures, c .before .before .before .before .run-end2 .ensures, end) at (c .before .before .if2 .taken))
-    (lt-leb (numberAt 10 (a .s .now) (a .at) (runEnd Word (a .s .now) (a .at) - a .at) 0) largest (rw (c .before .digits-value .ensures, end) at (c .if3 .left))))
+    let t = rw (c .before .before .before .is-digit .ensures, c .before .before .before .before .run-end2 .ensures, end) at (c .before .before .if2 .taken) in
+    let u = lt-leb (numberAt 10 (a .s .now) (a .at) (runEnd Word (a .s .now) (a .at) - a .at) 0) largest (rw (c .before .digits-value .ensures, end) at (c .if3 .left)) in
+    rw (t, u, decimalAt)
 
 returns-4 : tie.Need-returns-4
+unfolding decimalAt
 returns-4 c =
-    let a = c .before .before .before .before .before .before .before .args in
-    sym (not-plain (a .s .now) (a .at) (rw (c .before .is-digit .ensures, c .before .before .run-end2 .ensures, c .before .before .before .run-end .ensures) at (c .if2 .left)))
+    let t = rw (c .before .is-digit .ensures, c .before .before .run-end2 .ensures, c .before .before .before .run-end .ensures) at (c .if2 .left) in
+    rw (t, decimalAt)
 
 pub decimal-at-spec : {M : Type 1} → statement M
 decimal-at-spec =

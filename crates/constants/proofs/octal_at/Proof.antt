@@ -1,10 +1,9 @@
 -- `constants::octal_at`: the digits from the place on, of three bits each.
-use mathlib.Core.Path.{sym}
 use native.Mathlib.Omega.{arith}
-use Rattle.constants.specs.Constants.{octalDigits}
+use Rattle.constants.specs.Constants.{octalDigits, markedAt}
 use Rattle.characters.specs.declared.Class.the-variants.{Octal}
 use Rattle.characters.proofs.Runs.{before-end}
-use Rattle.constants.proofs.Digits.{digits-between, marked, unmarked, marked-lt, octal-small}
+use Rattle.constants.proofs.Digits.{digits-between, marked-lt, octal-small}
 use borrow.Author.Needs.{needs}
 use Rattle.constants.proofs.octal_at.Statement.{statement}
 use Rattle.constants.proofs.octal_at.Tie as tie
@@ -45,15 +44,17 @@ cast-t15 c =
     omega (arith, digits-between (c .before .before .before .before .args .at) (c .before .before .run-end .result) octalDigits (c .before .if1 .taken))
 
 returns : tie.Need-returns
+unfolding markedAt
 returns c =
-    let a = c .before .before .before .before .args in
     let end = c .before .before .run-end .ensures in
-    rw (c .digits-value .ensures, end) (sym (marked Octal 8 3 octalDigits (a .s .now) (a .at) (rw end at (c .before .if1 .taken))))
+    let t = rw end at (c .before .if1 .taken) in
+    rw (c .digits-value .ensures, end, t, markedAt)
 
 returns-2 : tie.Need-returns-2
+unfolding markedAt
 returns-2 c =
-    let a = c .before .before .before .args in
-    sym (unmarked Octal 8 3 octalDigits (a .s .now) (a .at) (rw (c .before .run-end .ensures) at (c .if1 .left)))
+    let t = rw (c .before .run-end .ensures) at (c .if1 .left) in
+    rw (t, markedAt)
 
 pub octal-at-spec : {M : Type 1} → statement M
 octal-at-spec =

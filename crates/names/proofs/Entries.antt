@@ -5,7 +5,7 @@ use mathlib.Core.Logic.{_≢_}
 use mathlib.Core.Bool.{true, false}
 use mathlib.Core.List.{List, [], _∷_, _++_}
 use Prim.Native.Nat.{ℕ, zero, suc, _+_, _-_, _≤_, _<_}
-use native.Mathlib.Nat.{zero-add, sub-zero}
+use native.Mathlib.Nat.{zero-add, sub-zero, sub-add-eq}
 use native.Mathlib.Numerals.{add-one, sub-one}
 use native.Mathlib.Omega.{arith}
 use lib.ListN.{length, take, drop, set}
@@ -26,31 +26,19 @@ module _ (text : List ℕ) (d : Dictionary) where
   no-entry i zero h = refl
   no-entry i (suc n) h = absurd (omega arith)
 
--- the name is the first entry's, or another
-found-here : (s : List ℕ) (e : Named) (es : List Named) → same (e .name) s ≡ true → find s (e ∷ es) ≡ 0
-unfolding find
-found-here s e es t = rw (t, find)
-
-found-later : (s : List ℕ) (e : Named) (es : List Named) → same (e .name) s ≡ false → find s (e ∷ es) ≡ suc (find s es)
-unfolding find
-found-later s e es t = rw (t, find)
-
 -- the search through a dictionary, from entry i on
 module _ (s text : List ℕ) (d : Dictionary) where
   pub start : find s (entries text d) ≡ 0 + find s (entriesFrom text d 0 (d .count - 0))
   start = rw (sub-zero (d .count)) (sym (zero-add (find s (entries text d))))
 
   pub here : (i : ℕ) → i < d .count → same (entryAt text d i .name) s ≡ true → i + find s (entriesFrom text d i (d .count - i)) ≡ i
-  here i h t = rw (next-entry text d i (d .count - i) (omega arith), found-here s (entryAt text d i) (entriesFrom text d (i + 1) (d .count - i - 1)) t) (omega arith)
+  unfolding find
+  here i h t = rw (next-entry text d i (d .count - i) (omega arith), t, find) (omega arith)
 
   pub later : (i : ℕ) → i < d .count → same (entryAt text d i .name) s ≡ false
       → i + find s (entriesFrom text d i (d .count - i)) ≡ i + 1 + find s (entriesFrom text d (i + 1) (d .count - (i + 1)))
-  later i h t =
-      rw (next-entry text d i (d .count - i) (omega arith), found-later s (entryAt text d i) (entriesFrom text d (i + 1) (d .count - i - 1)) t, left)
-      (omega arith)
-    where
-      left : d .count - i - 1 ≡ d .count - (i + 1)
-      left = omega arith
+  unfolding find
+  later i h t = rw (next-entry text d i (d .count - i) (omega arith), t, find, ← sub-add-eq (d .count) i 1) (omega arith)
 
   pub nowhere : (i : ℕ) → d .count ≤ i → i + find s (entriesFrom text d i (d .count - i)) ≡ i
   unfolding find

@@ -30,7 +30,9 @@ add-one-more : tie.Need-add-one-more
 add-one-more c =
     let entry = c .before .before .before .before .before .before .before in
     let a = entry .args in
-    omega (arith, present (a .s .now) (c .before .before .before .before .before .skip-spaces .result) (a .close) (sym (c .before .before .before .before .byte .ensures) ∙ c .before .before .before .if1 .left) (entry .pre .1 .1 .1 .1))
+    let end = c .before .before .before .before .before .skip-spaces .result in
+    let same = sym (c .before .before .before .before .byte .ensures) ∙ c .before .before .before .if1 .left in
+    omega (arith, present (a .s .now) end (a .close) same (entry .pre .1 .1 .1 .1))
 
 one-more-requires : tie.Need-one-more-requires
 one-more-requires c κs = search needs
@@ -39,7 +41,8 @@ add-t14 : tie.Need-add-t14
 add-t14 c =
     let entry = c .before .before .before .before .before in
     let a = entry .args in
-    omega (arith, present (a .s .now) (c .before .before .before .skip-spaces .result) (a .close) (sym (c .before .before .byte .ensures) ∙ c .before .if1 .left) (entry .pre .1 .1 .1 .1))
+    let same = sym (c .before .before .byte .ensures) ∙ c .before .if1 .left in
+    omega (arith, present (a .s .now) (c .before .before .before .skip-spaces .result) (a .close) same (entry .pre .1 .1 .1 .1))
 
 returns-2 : tie.Need-returns-2
 returns-2 c =

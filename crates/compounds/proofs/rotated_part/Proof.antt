@@ -50,10 +50,12 @@ returns c =
     let entry = c .before .before .before .before .before .before .before .before .before .before .before in
     let a = entry .args in
     let count = c .before .before .before .before .before .before .value .given in
-    let e = counts (a .s .now) (a .at) (c .before .before .before .before .before .before .before .before .before .skip-spaces .ensures) (c .before .before .before .before .before .before .before .before .decimal-at .ensures) (count .1) in
+    let skipped = c .before .before .before .before .before .before .before .before .before .skip-spaces .ensures in
+    let e = counts (a .s .now) (a .at) skipped (c .before .before .before .before .before .before .before .before .decimal-at .ensures) (count .1) in
     let o = decimal-past (a .s .now) (skip (a .s .now) (a .at)) e in
     rw (c .before .before .emit .ensures)
-    (rotates (a .s .now) (a .row) (a .at) (a .c) (a .width) (a .code .now) (count .0 .0) (count .0 .1 .0) e (c .before .before .before .before .if1 .taken) (entry .pre .1 .0) (entry .pre .1 .1 .0) (omega (arith, onward Space (a .s .now) (a .at))) (entry .pre .1 .1 .1 .0))
+    (rotates (a .s .now) (a .row) (a .at) (a .c) (a .width) (a .code .now) (count .0 .0) (count .0 .1 .0) e
+    (c .before .before .before .before .if1 .taken) (entry .pre .1 .0) (entry .pre .1 .1 .0) (omega (arith, onward Space (a .s .now) (a .at))) (entry .pre .1 .1 .1 .0))
 
 returns-2 : tie.Need-returns-2
 returns-2 c =

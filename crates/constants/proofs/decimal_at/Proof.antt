@@ -57,7 +57,10 @@ digits-value-requires c κs =
     let a = c .before .before .before .before .before .before .before .args in
     let end = c .before .before .before .run-end in
     let start : a .at < length (a .s .now) = c .before .before .before .before .before .if1 .left in
-    omega (arith, after-start Word (a .s .now) (a .at) (end .result) (end .ensures), before-end Word (a .s .now) (a .at) (end .result) (end .ensures) (omega arith), upper (c .before .is-digit .result) (a .at) (c .before .before .run-end2 .result) (end .result) (getD (a .s .now) (a .at) 0) (c .if2 .taken))
+    let onward = after-start Word (a .s .now) (a .at) (end .result) (end .ensures) in
+    let within = before-end Word (a .s .now) (a .at) (end .result) (end .ensures) (omega arith) in
+    let few = upper (c .before .is-digit .result) (a .at) (c .before .before .run-end2 .result) (end .result) (getD (a .s .now) (a .at) 0) (c .if2 .taken) in
+    omega arith
 
 cast-t21 : tie.Need-cast-t21
 cast-t21 c = search needs

@@ -36,7 +36,8 @@ mul-v : tie.Need-mul-v Inv-loop μ-loop
 mul-v c =
     let a = c .before .before .args in
     let l = c .before .loop in
-    record { fits = omega (arith, next-lt (l .left) (l .v) (a .base) 0 (c .loop-test .taken) (omega arith) (l .inv .2) (c .before .before .pre .1 .1) (omega arith), small (l .left)) }
+    let next = next-lt (l .left) (l .v) (a .base) 0 (c .loop-test .taken) (omega arith) (l .inv .2) (c .before .before .pre .1 .1) (omega arith) in
+    record { fits = omega (arith, small (l .left)) }
 
 shared-slice-read-v : tie.Need-shared-slice-read-v Inv-loop μ-loop
 shared-slice-read-v c = search needs
@@ -48,7 +49,9 @@ add-v : tie.Need-add-v Inv-loop μ-loop
 add-v c =
     let a = c .before .before .before .args in
     let l = c .before .before .loop in
-    record { fits = omega (arith, next-lt (l .left) (l .v) (a .base) (getD (a .s .now) (l .i) 0 % 16) (c .before .loop-test .taken) (omega arith) (l .inv .2) (c .before .before .before .pre .1 .1) (omega arith), small (l .left)) }
+    let digit = getD (a .s .now) (l .i) 0 % 16 in
+    let next = next-lt (l .left) (l .v) (a .base) digit (c .before .loop-test .taken) (omega arith) (l .inv .2) (c .before .before .before .pre .1 .1) (omega arith) in
+    record { fits = omega (arith, small (l .left)) }
 
 add-i : tie.Need-add-i Inv-loop μ-loop
 add-i c = search needs
@@ -63,7 +66,9 @@ loop-again : tie.Need-loop-again Inv-loop μ-loop
 loop-again c =
     let a = c .before .before .before .args in
     let l = c .before .before .loop in
-    (omega arith, omega arith, next-lt (l .left) (l .v) (a .base) (getD (a .s .now) (l .i) 0 % 16) (c .before .loop-test .taken) (omega arith) (l .inv .2) (c .before .before .before .pre .1 .1) (omega arith), l .inv .3 ∙ more-digits (a .base) (a .s .now) (l .i) (l .left) (l .v) (c .before .loop-test .taken))
+    let digit = getD (a .s .now) (l .i) 0 % 16 in
+    let next = next-lt (l .left) (l .v) (a .base) digit (c .before .loop-test .taken) (omega arith) (l .inv .2) (c .before .before .before .pre .1 .1) (omega arith) in
+    (omega arith, omega arith, next, l .inv .3 ∙ more-digits (a .base) (a .s .now) (l .i) (l .left) (l .v) (c .before .loop-test .taken))
 
 returns : tie.Need-returns Inv-loop μ-loop
 returns c =

@@ -22,7 +22,8 @@ digits-value-requires : tie.Need-digits-value-requires
 digits-value-requires c κs =
     let a = c .before .before .before .args in
     let end = c .before .run-end in
-    omega (arith, digits-between (a .at) (end .result) octalDigits (c .if1 .taken), before-end Octal (a .s .now) (a .at) (end .result) (end .ensures) (c .before .before .before .pre))
+    let few = digits-between (a .at) (end .result) octalDigits (c .if1 .taken) in
+    omega (arith, before-end Octal (a .s .now) (a .at) (end .result) (end .ensures) (c .before .before .before .pre))
 
 cast-t12 : tie.Need-cast-t12
 cast-t12 c =

@@ -1,15 +1,13 @@
 -- `constants::shortest_form`: one number of bits after the other is tried.
 use mathlib.Core.Path.{_≡_, refl, sym, ap, _∙_}
 use Prim.Native.Nat.{ℕ, _+_, _-_, _≤_}
+use native.Mathlib.Nat.{sub-add-eq}
 use native.Mathlib.Omega.{arith}
 use Rattle.constants.specs.Constants.{shortest, shortestFrom}
 use Rattle.constants.proofs.Digits.{longer, long-enough}
 use borrow.Author.Needs.{needs}
 use Rattle.constants.proofs.shortest_form.Statement.{statement}
 use Rattle.constants.proofs.shortest_form.Tie as tie
-
-less : (n : ℕ) → 15 - n - 1 ≡ 15 - (n + 1)
-less n = omega arith
 
 -- the last number of bits is tried
 done : (n v : ℕ) → 15 ≤ n → shortestFrom (15 - n) n v ≡ n
@@ -47,7 +45,9 @@ loop-less c = search needs
 loop-again : tie.Need-loop-again Inv-loop μ-loop
 loop-again c =
     let l = c .before .before .before .loop in
-    (omega arith, omega arith, l .inv .2 ∙ longer (15 - l .n) (l .n) (c .before .before .before .before .args .v) (sym (c .before .is-narrow .ensures) ∙ c .if1 .left) (omega arith) ∙ ap (λ (k : ℕ). shortestFrom k (l .n + 1) (c .before .before .before .before .args .v)) (less (l .n)))
+    let v = c .before .before .before .before .args .v in
+    let more = longer (15 - l .n) (l .n) v (sym (c .before .is-narrow .ensures) ∙ c .if1 .left) (omega arith) in
+    (omega arith, omega arith, l .inv .2 ∙ more ∙ ap (λ (k : ℕ). shortestFrom k (l .n + 1) v) (sym (sub-add-eq 15 (l .n) 1)))
 
 returns-2 : tie.Need-returns-2 Inv-loop μ-loop
 returns-2 c =

@@ -58,7 +58,8 @@ loop-again c =
 returns-2 : tie.Need-returns-2 Inv-loop μ-loop
 returns-2 c =
     let l = c .before .before .before .loop in
-    sym (l .inv .1 ∙ few-fields (l .left) (l .rest .now) (c .before .before .loop-test .taken) (rw (ends (l .rest .now) (c .before .run-end .result) (c .before .run-end .ensures)) at (c .if2 .left)))
+    let end = c .before .run-end in
+    sym (l .inv .1 ∙ few-fields (l .left) (l .rest .now) (c .before .before .loop-test .taken) (rw (ends (l .rest .now) (end .result) (end .ensures)) at (c .if2 .left)))
 
 run-end-requires-2 : tie.Need-run-end-requires-2 Inv-loop μ-loop
 run-end-requires-2 c κs = search needs
@@ -66,7 +67,8 @@ run-end-requires-2 c κs = search needs
 returns-3 : tie.Need-returns-3 Inv-loop μ-loop
 returns-3 c =
     let l = c .before .before .loop in
-    sym (l .inv .1 ∙ last-field (l .left) (l .rest .now) (omega arith) ∙ ap (λ (e : ℕ). ltb 0 e && eqb e (length (l .rest .now))) (sym (ends (l .rest .now) (c .run-end2 .result) (c .run-end2 .ensures))))
+    let end = ends (l .rest .now) (c .run-end2 .result) (c .run-end2 .ensures) in
+    sym (l .inv .1 ∙ last-field (l .left) (l .rest .now) (omega arith) ∙ ap (λ (e : ℕ). ltb 0 e && eqb e (length (l .rest .now))) (sym end))
 
 pub has-fields-spec : {M : Type 1} → statement M
 has-fields-spec =

@@ -35,8 +35,10 @@ enum-known-value c = search needs
 
 leaf-part-requires : tie.Need-leaf-part-requires
 leaf-part-requires c κs =
-    let a = c .before .before .before .before .before .before .args in
-    omega (arith, c .before .before .before .before .before .before .pre, constant-past (a .s .now) (a .c .place) (sym (c .before .before .before .before .constant-at .ensures) ∙ c .before .before .value .given .1))
+    let entry = c .before .before .before .before .before .before in
+    let a = entry .args in
+    let found = sym (c .before .before .before .before .constant-at .ensures) ∙ c .before .before .value .given .1 in
+    omega (arith, entry .pre, constant-past (a .s .now) (a .c .place) found)
 
 enum-told : tie.Need-enum-told
 enum-told c = search needs

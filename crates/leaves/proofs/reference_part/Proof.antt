@@ -65,7 +65,8 @@ leaf-part-requires : tie.Need-leaf-part-requires
 leaf-part-requires c κs =
     let entry = c .before .before .before .before .before .before .before in
     let a = entry .args in
-    omega (arith, entry .pre, whole (entries (a .text .now) (a .d)) (a .s .now) (a .c) (c .before .before .before .before .reference-at .ensures) (entry .pre .1 .1) (c .before .before .register .given .1))
+    let o = whole (entries (a .text .now) (a .d)) (a .s .now) (a .c) (c .before .before .before .before .reference-at .ensures) (entry .pre .1 .1) (c .before .before .register .given .1) in
+    omega (arith, entry .pre, o)
 
 enum-known-register-2 : tie.Need-enum-known-register-2
 enum-known-register-2 c = search needs
@@ -74,31 +75,36 @@ sub-size : tie.Need-sub-size
 sub-size c =
     let entry = c .before .before .before .before .before .before in
     let a = entry .args in
-    omega (arith, bits (entries (a .text .now) (a .d)) (a .s .now) (a .c) (c .before .before .before .reference-at .ensures) (entry .pre .1 .1) (c .before .register2 .given .1))
+    let o = bits (entries (a .text .now) (a .d)) (a .s .now) (a .c) (c .before .before .before .reference-at .ensures) (entry .pre .1 .1) (c .before .register2 .given .1) in
+    omega (arith, o)
 
 add-size : tie.Need-add-size
 add-size c =
     let entry = c .before .before .before .before .before .before in
     let a = entry .args in
-    omega (arith, bits (entries (a .text .now) (a .d)) (a .s .now) (a .c) (c .before .before .before .reference-at .ensures) (entry .pre .1 .1) (c .before .register2 .given .1))
+    let o = bits (entries (a .text .now) (a .d)) (a .s .now) (a .c) (c .before .before .before .reference-at .ensures) (entry .pre .1 .1) (c .before .register2 .given .1) in
+    omega (arith, o)
 
 sub-leaf-part : tie.Need-sub-leaf-part
 sub-leaf-part c =
     let entry = c .before .before .before .before .before .before .before in
     let a = entry .args in
-    omega (arith, bits (entries (a .text .now) (a .d)) (a .s .now) (a .c) (c .before .before .before .before .reference-at .ensures) (entry .pre .1 .1) (c .before .before .register2 .given .1))
+    let o = bits (entries (a .text .now) (a .d)) (a .s .now) (a .c) (c .before .before .before .before .reference-at .ensures) (entry .pre .1 .1) (c .before .before .register2 .given .1) in
+    omega (arith, o)
 
 sub-leaf-part-2 : tie.Need-sub-leaf-part-2
 sub-leaf-part-2 c =
     let entry = c .before .before .before .before .before .before .before in
     let a = entry .args in
-    omega (arith, bits (entries (a .text .now) (a .d)) (a .s .now) (a .c) (c .before .before .before .before .reference-at .ensures) (entry .pre .1 .1) (c .before .before .register2 .given .1))
+    let o = bits (entries (a .text .now) (a .d)) (a .s .now) (a .c) (c .before .before .before .before .reference-at .ensures) (entry .pre .1 .1) (c .before .before .register2 .given .1) in
+    omega (arith, o)
 
 leaf-part-requires-2 : tie.Need-leaf-part-requires-2
 leaf-part-requires-2 c κs =
     let entry = c .before .before .before .before .before .before .before in
     let a = entry .args in
-    omega (arith, entry .pre, bits (entries (a .text .now) (a .d)) (a .s .now) (a .c) (c .before .before .before .before .reference-at .ensures) (entry .pre .1 .1) (c .before .before .register2 .given .1))
+    let o = bits (entries (a .text .now) (a .d)) (a .s .now) (a .c) (c .before .before .before .before .reference-at .ensures) (entry .pre .1 .1) (c .before .before .register2 .given .1) in
+    omega (arith, entry .pre, o)
 
 enum-told : tie.Need-enum-told
 enum-told c = search needs
@@ -107,13 +113,17 @@ returns : tie.Need-returns
 returns c =
     let entry = c .before .before .before .before .before .before .before .before in
     let a = entry .args in
-    whole-leaf (entries (a .text .now) (a .d)) (a .s .now) (a .c) (c .before .before .before .before .before .reference-at .ensures) (entry .pre .1 .1) (c .before .before .before .register .given .1) (c .leaf-part .ensures)
+    whole-leaf (entries (a .text .now) (a .d)) (a .s .now) (a .c)
+    (c .before .before .before .before .before .reference-at .ensures)
+    (entry .pre .1 .1) (c .before .before .before .register .given .1) (c .leaf-part .ensures)
 
 returns-2 : tie.Need-returns-2
 returns-2 c =
     let entry = c .before .before .before .before .before .before .before .before in
     let a = entry .args in
-    bits-leaf (entries (a .text .now) (a .d)) (a .s .now) (a .c) (c .before .before .before .before .before .reference-at .ensures) (entry .pre .1 .1) (c .before .before .before .register2 .given .1) (c .leaf-part2 .ensures)
+    bits-leaf (entries (a .text .now) (a .d)) (a .s .now) (a .c)
+    (c .before .before .before .before .before .reference-at .ensures)
+    (entry .pre .1 .1) (c .before .before .before .register2 .given .1) (c .leaf-part2 .ensures)
 
 returns-3 : tie.Need-returns-3
 returns-3 c =

@@ -41,7 +41,12 @@ unfolding operatorRow findIn
 returns-3 c =
     let two = c .before .before .before in
     let one = two .before .before .before in
-    rw (sym (one .before .is-same .ensures) ∙ one .if1 .left, sym (two .before .is-same2 .ensures) ∙ two .if2 .left, sym (c .before .is-same3 .ensures) ∙ c .if3 .taken, findIn)
+    rw (
+      sym (one .before .is-same .ensures) ∙ one .if1 .left,
+      sym (two .before .is-same2 .ensures) ∙ two .if2 .left,
+      sym (c .before .is-same3 .ensures) ∙ c .if3 .taken,
+      findIn,
+    )
 
 slice-aggregate-is-same-4 : tie.Need-slice-aggregate-is-same-4
 slice-aggregate-is-same-4 c = search needs
@@ -55,7 +60,13 @@ returns-4 c =
     let three = c .before .before .before in
     let two = three .before .before .before in
     let one = two .before .before .before in
-    rw (sym (one .before .is-same .ensures) ∙ one .if1 .left, sym (two .before .is-same2 .ensures) ∙ two .if2 .left, sym (three .before .is-same3 .ensures) ∙ three .if3 .left, sym (c .before .is-same4 .ensures) ∙ c .if4 .taken, findIn)
+    rw (
+      sym (one .before .is-same .ensures) ∙ one .if1 .left,
+      sym (two .before .is-same2 .ensures) ∙ two .if2 .left,
+      sym (three .before .is-same3 .ensures) ∙ three .if3 .left,
+      sym (c .before .is-same4 .ensures) ∙ c .if4 .taken,
+      findIn,
+    )
 
 row-from-4-requires : tie.Need-row-from-4-requires
 row-from-4-requires c κs = search needs
@@ -70,7 +81,14 @@ returns-5 c =
     let three = four .before .before .before in
     let two = three .before .before .before in
     let one = two .before .before .before in
-    rw (c .row-from-4 .ensures, sym (one .before .is-same .ensures) ∙ one .if1 .left, sym (two .before .is-same2 .ensures) ∙ two .if2 .left, sym (three .before .is-same3 .ensures) ∙ three .if3 .left, sym (four .before .is-same4 .ensures) ∙ four .if4 .left, findIn)
+    rw (
+      c .row-from-4 .ensures,
+      sym (one .before .is-same .ensures) ∙ one .if1 .left,
+      sym (two .before .is-same2 .ensures) ∙ two .if2 .left,
+      sym (three .before .is-same3 .ensures) ∙ three .if3 .left,
+      sym (four .before .is-same4 .ensures) ∙ four .if4 .left,
+      findIn,
+    )
     (joined _)
 
 pub operator-row-spec : {M : Type 1} → statement M

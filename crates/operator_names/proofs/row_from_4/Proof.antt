@@ -41,7 +41,12 @@ unfolding findIn
 returns-3 c =
     let two = c .before .before .before in
     let one = two .before .before .before in
-    rw (sym (one .before .is-same .ensures) ∙ one .if1 .left, sym (two .before .is-same2 .ensures) ∙ two .if2 .left, sym (c .before .is-same3 .ensures) ∙ c .if3 .taken, findIn)
+    rw (
+      sym (one .before .is-same .ensures) ∙ one .if1 .left,
+      sym (two .before .is-same2 .ensures) ∙ two .if2 .left,
+      sym (c .before .is-same3 .ensures) ∙ c .if3 .taken,
+      findIn,
+    )
 
 row-from-7-requires : tie.Need-row-from-7-requires
 row-from-7-requires c κs = search needs
@@ -55,7 +60,13 @@ returns-4 c =
     let three = c .before in
     let two = three .before .before .before in
     let one = two .before .before .before in
-    rw (c .row-from-7 .ensures, sym (one .before .is-same .ensures) ∙ one .if1 .left, sym (two .before .is-same2 .ensures) ∙ two .if2 .left, sym (three .before .is-same3 .ensures) ∙ three .if3 .left, findIn)
+    rw (
+      c .row-from-7 .ensures,
+      sym (one .before .is-same .ensures) ∙ one .if1 .left,
+      sym (two .before .is-same2 .ensures) ∙ two .if2 .left,
+      sym (three .before .is-same3 .ensures) ∙ three .if3 .left,
+      findIn,
+    )
     (joined _)
 
 pub row-from-4-spec : {M : Type 1} → statement M

@@ -39,14 +39,24 @@ unfolding findIn
 returns-3 c =
     let two = c .before .before .before in
     let one = two .before .before .before in
-    rw (sym (one .before .is-same .ensures) ∙ one .if1 .left, sym (two .before .is-same2 .ensures) ∙ two .if2 .left, sym (c .before .is-same3 .ensures) ∙ c .if3 .taken, findIn)
+    rw (
+      sym (one .before .is-same .ensures) ∙ one .if1 .left,
+      sym (two .before .is-same2 .ensures) ∙ two .if2 .left,
+      sym (c .before .is-same3 .ensures) ∙ c .if3 .taken,
+      findIn,
+    )
 
 returns-4 : tie.Need-returns-4
 unfolding findIn
 returns-4 c =
     let two = c .before .before .before in
     let one = two .before .before .before in
-    rw (sym (one .before .is-same .ensures) ∙ one .if1 .left, sym (two .before .is-same2 .ensures) ∙ two .if2 .left, sym (c .before .is-same3 .ensures) ∙ c .if3 .left, findIn)
+    rw (
+      sym (one .before .is-same .ensures) ∙ one .if1 .left,
+      sym (two .before .is-same2 .ensures) ∙ two .if2 .left,
+      sym (c .before .is-same3 .ensures) ∙ c .if3 .left,
+      findIn,
+    )
 
 pub row-from-7-spec : {M : Type 1} → statement M
 row-from-7-spec =

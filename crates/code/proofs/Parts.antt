@@ -1,7 +1,7 @@
 -- The laws of parts: what each word that is put into the table makes of what was read, over any tree.
 -- Assumes nothing.
 use mathlib.Core.Path.{_≡_, refl, sym, ap, subst, _∙_}
-use mathlib.Core.List.{List, [], _∷_, _++_, append-assoc}
+use mathlib.Core.List.{List, _++_, append-assoc}
 use Prim.Native.Nat.{ℕ, zero, suc, _+_, _*_, _≤_, _<_}
 use native.Mathlib.Omega.{arith}
 use lib.ListN.{length, length-append}
@@ -36,38 +36,38 @@ abbrev pub behind : Cursor → ℕ → ℕ → Cursor
 behind c p n = record { place = p; words = c .words + 1; pieces = c .pieces + n }
 
 -- a tree u that puts one word behind the words of t
-pub over : (t u : Expr) (p q k a b d n : ℕ) (c : Cursor) (w : ℕ) (from : Cursor) (before now : List ℕ)
-    → codeOf u ≡ codeOf t ++ (k ∷ a ∷ b ∷ d ∷ []) → pieces u ≡ pieces t + n → Held t p c w from before now
-    → Held u q (behind c q n) (width u) from before (sets now (4 * c .words) (k ∷ a ∷ b ∷ d ∷ []))
-over t u p q k a b d n c w from before now e m h =
+pub over : (t u : Expr) (p q : ℕ) (word : List ℕ) (n : ℕ) (c : Cursor) (w : ℕ) (from : Cursor) (before now : List ℕ)
+    → length word ≡ 4 → codeOf u ≡ codeOf t ++ word → pieces u ≡ pieces t + n → Held t p c w from before now
+    → Held u q (behind c q n) (width u) from before (sets now (4 * c .words) word)
+over t u p q word n c w from before now four e m h =
     record {
       place-is = refl;
       width-is = refl;
       pieces-are = omega (arith, h .pieces-are);
-      words-are = omega (arith, h .words-are, ap length e, length-append (codeOf t) (k ∷ a ∷ b ∷ d ∷ []));
+      words-are = omega (arith, h .words-are, ap length e, length-append (codeOf t) word);
       code-is =
-          ap (λ (l : List ℕ). sets l (4 * c .words) (k ∷ a ∷ b ∷ d ∷ [])) (h .code-is)
-          ∙ sets-behind before (4 * from .words) (4 * c .words) (codeOf t) (k ∷ a ∷ b ∷ d ∷ []) (h .words-are)
+          ap (λ (l : List ℕ). sets l (4 * c .words) word) (h .code-is)
+          ∙ sets-behind before (4 * from .words) (4 * c .words) (codeOf t) word (h .words-are)
           ∙ ap (sets before (4 * from .words)) (sym e);
     }
 
 -- a tree u that puts one word behind the words of l and r
-pub over-both : (l r u : Expr) (p q k a b d x : ℕ) (left : Cursor) (w : ℕ) (right : Cursor) (v : ℕ) (from : Cursor) (before mid now : List ℕ)
-    → codeOf u ≡ codeOf l ++ codeOf r ++ (k ∷ a ∷ b ∷ d ∷ []) → pieces u ≡ pieces l + pieces r + 1
+pub over-both : (l r u : Expr) (p q : ℕ) (word : List ℕ) (x : ℕ) (left : Cursor) (w : ℕ) (right : Cursor) (v : ℕ) (from : Cursor) (before mid now : List ℕ)
+    → length word ≡ 4 → codeOf u ≡ codeOf l ++ codeOf r ++ word → pieces u ≡ pieces l + pieces r + 1
     → Held l p left w from before mid → Held r q right v (record { place = x; words = left .words; pieces = left .pieces }) mid now
-    → Held u q (behind right (right .place) 1) (width u) from before (sets now (4 * right .words) (k ∷ a ∷ b ∷ d ∷ []))
-over-both l r u p q k a b d x left w right v from before mid now e m hl hr =
+    → Held u q (behind right (right .place) 1) (width u) from before (sets now (4 * right .words) word)
+over-both l r u p q word x left w right v from before mid now four e m hl hr =
     record {
       place-is = hr .place-is;
       width-is = refl;
       pieces-are = omega (arith, hl .pieces-are, hr .pieces-are);
-      words-are = omega (arith, hl .words-are, hr .words-are, ap length e, length-append (codeOf l) (codeOf r), length-append (codeOf l ++ codeOf r) (k ∷ a ∷ b ∷ d ∷ []));
+      words-are = omega (arith, hl .words-are, hr .words-are, ap length e, length-append (codeOf l) (codeOf r), length-append (codeOf l ++ codeOf r) word);
       code-is =
-          ap (λ (z : List ℕ). sets z (4 * right .words) (k ∷ a ∷ b ∷ d ∷ [])) (hr .code-is)
-          ∙ sets-behind mid (4 * left .words) (4 * right .words) (codeOf r) (k ∷ a ∷ b ∷ d ∷ []) (hr .words-are)
-          ∙ ap (λ (z : List ℕ). sets z (4 * left .words) (codeOf r ++ (k ∷ a ∷ b ∷ d ∷ []))) (hl .code-is)
-          ∙ sets-behind before (4 * from .words) (4 * left .words) (codeOf l) (codeOf r ++ (k ∷ a ∷ b ∷ d ∷ [])) (hl .words-are)
-          ∙ ap (sets before (4 * from .words)) (sym (append-assoc (codeOf l) (codeOf r) (k ∷ a ∷ b ∷ d ∷ [])) ∙ sym e);
+          ap (λ (z : List ℕ). sets z (4 * right .words) word) (hr .code-is)
+          ∙ sets-behind mid (4 * left .words) (4 * right .words) (codeOf r) word (hr .words-are)
+          ∙ ap (λ (z : List ℕ). sets z (4 * left .words) (codeOf r ++ word)) (hl .code-is)
+          ∙ sets-behind before (4 * from .words) (4 * left .words) (codeOf l) (codeOf r ++ word) (hl .words-are)
+          ∙ ap (sets before (4 * from .words)) (sym (append-assoc (codeOf l) (codeOf r) word) ∙ sym e);
     }
 
 -- a row's operator stands in that row
@@ -86,12 +86,12 @@ row-is (suc (suc (suc (suc (suc (suc (suc (suc (suc (suc n)))))))))) h = absurd 
 
 -- a tree of one word that is narrow enough, one that isn't, and none
 module _ (from : Cursor) (before : List ℕ) (p w : ℕ) where
-  pub leaf : (k a b d : ℕ) → w ≤ widest
-      → Single p w (k ∷ a ∷ b ∷ d ∷ []) (Found (behind from p 1) w) from before (sets before (4 * from .words) (k ∷ a ∷ b ∷ d ∷ []))
-  leaf k a b d h x t s e v code n o i =
+  pub leaf : (word : List ℕ) → length word ≡ 4 → w ≤ widest
+      → Single p w word (Found (behind from p 1) w) from before (sets before (4 * from .words) word)
+  leaf word four h x t s e v code n o i =
       record {
         meets =
-            met x (read t p) (Found (behind from p 1) w) from before (sets before (4 * from .words) (k ∷ a ∷ b ∷ d ∷ []))
+            met x (read t p) (Found (behind from p 1) w) from before (sets before (4 * from .words) word)
             (e ∙ is-limited t p (subst (λ (z : ℕ). z ≤ widest) v h))
             (record {
               place-is = refl;

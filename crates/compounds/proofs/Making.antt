@@ -61,7 +61,7 @@ module _ (s : List ℕ) (close : ℕ) (c : Cursor) (w : ℕ) (now : List ℕ) wh
   square-meets f g (read t p) from before h =
       met (closed s close (read t p)) (read (memory t) end) (Found (behind c end 1) wordBits) from before with-memory
       (closed-is t p true (h .place-is) f g)
-      (over t (memory t) p end 3 0 0 0 1 c w from before now refl refl h)
+      (over t (memory t) p end (3 ∷ 0 ∷ 0 ∷ 0 ∷ []) 1 c w from before now refl refl refl h)
   square-meets f g outside from before h = absurd h
 
   round-meets : shut ≡ true → eqb close 93 ≡ false → (x : Reading) (from : Cursor) (before : List ℕ)
@@ -89,7 +89,7 @@ module _ (c : Cursor) (w : ℕ) (now : List ℕ) where
       → Meets (notOf x) (Found (behind c (c .place) 1) w) from before (sets now (4 * c .words) (4 ∷ w ∷ 0 ∷ 0 ∷ []))
   unfolding notOf codeOf
   not-meets (read t p) from before h =
-      let o = over t (complemented t) p (c .place) 4 w 0 0 1 c w from before now (ap (λ (z : ℕ). codeOf t ++ (4 ∷ z ∷ 0 ∷ 0 ∷ [])) (sym (h .width-is))) refl h in
+      let o = over t (complemented t) p (c .place) (4 ∷ w ∷ 0 ∷ 0 ∷ []) 1 c w from before now refl (ap (λ (z : ℕ). codeOf t ++ (4 ∷ z ∷ 0 ∷ 0 ∷ [])) (sym (h .width-is))) refl h in
       record { place-is = h .place-is; width-is = h .width-is; pieces-are = o .pieces-are; words-are = o .words-are; code-is = o .code-is }
   not-meets outside from before h = absurd h
 
@@ -133,7 +133,7 @@ module _ (s : List ℕ) (row at : ℕ) (c : Cursor) (w : ℕ) (now : List ℕ) w
       record {
         meets =
             λ l q from before g f m.
-            let v = over l (rotated (entryIn row .operator) l n) q p (4 + row) w n 0 2 c w from before now (word l (g .width-is)) refl g in
+            let v = over l (rotated (entryIn row .operator) l n) q p ((4 + row) ∷ w ∷ n ∷ 0 ∷ []) 2 c w from before now refl (word l (g .width-is)) refl g in
             met (turned row l count) (read (rotated (entryIn row .operator) l n) p) (Found (behind c p 2) w) from before
             (sets now (4 * c .words) ((4 + row) ∷ w ∷ n ∷ 0 ∷ []))
             (counted l n p e h)
@@ -169,7 +169,7 @@ module _ (row : ℕ) (left : Cursor) (w : ℕ) (right : Cursor) (v : ℕ) (now :
   unfolding joined codeOf
   narrow-meets h b l (read r z) p q from before mid g m =
       let e = both-is h l r (g .width-is) (m .width-is) in
-      let o = over-both l r (binary (entryIn row .operator) l r) p z (4 + row) w v 0 q left w right v from before mid now (word l r (g .width-is) (m .width-is) (row-is row h)) refl g m in
+      let o = over-both l r (binary (entryIn row .operator) l r) p z ((4 + row) ∷ w ∷ v ∷ 0 ∷ []) q left w right v from before mid now refl (word l r (g .width-is) (m .width-is) (row-is row h)) refl g m in
       met (limited (binary (entryIn row .operator) l r) z) (read (binary (entryIn row .operator) l r) z) (Found (behind right (right .place) 1) both) from before
       (sets now (4 * right .words) ((4 + row) ∷ w ∷ v ∷ 0 ∷ []))
       (is-limited (binary (entryIn row .operator) l r) z (omega arith))

@@ -1,4 +1,5 @@
 -- `leaves::leaf_part`: by its width.
+use mathlib.Core.Path.{refl}
 use mathlib.Core.List.{[], _∷_}
 use Rattle.code.proofs.Parts.{leaf, wide-leaf}
 use borrow.Author.Needs.{needs}
@@ -14,7 +15,8 @@ one-more-requires c κs = search needs
 returns : tie.Need-returns
 returns c =
     let a = c .before .before .before .before .args in
-    rw (c .one-more .ensures, c .before .emit .ensures) (leaf (a .c) (a .code .now) (a .place) (a .width) (a .kind) (a .x) (a .y) (a .z) (c .before .before .before .if1 .taken))
+    rw (c .one-more .ensures, c .before .emit .ensures)
+    (leaf (a .c) (a .code .now) (a .place) (a .width) (a .kind ∷ a .x ∷ a .y ∷ a .z ∷ []) refl (c .before .before .before .if1 .taken))
 
 returns-2 : tie.Need-returns-2
 returns-2 c =

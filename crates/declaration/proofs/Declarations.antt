@@ -23,6 +23,7 @@ use Rattle.text_limits.specs.Limits.{mostRegisters, mostLabels}
 use Rattle.declaration.specs.Lines.{Progress, Step, refused, next, widthOf, isWidth, isNewName, isNewLabel, addRegister, regLine, addLabel, atLine}
 use Rattle.declaration.specs.Stored.{progressOf, Within, Plain}
 
+-- how many names a dictionary holds, by the code's number and by the list
 module _ (text : List ℕ) (d : Dictionary) (n : ℕ) where
   room : d .count < n → ltb (length (entries text d)) n ≡ true
   room h = lt-ltb (length (entries text d)) n (subst (λ (k : ℕ). k < n) (sym (entries-length text d)) h)
@@ -41,28 +42,29 @@ pub plain-as : (text : List ℕ) (f g : Progress → Step) (q : code.Progress) (
     → Plain text g q r → Plain text f q r
 plain-as text f g q r e p = record { is = λ rs. e rs ∙ p .is rs; same-rows = p .same-rows; same-words = p .same-words; within = p .within }
 
-module _ (p : Progress) (s w : List ℕ) where
-  abbrev newRegister : Bool
-  newRegister = isNewName (p .registers) s && isWidth w (decimalAt w 0)
+-- registers: whether a name and a width declare a new one
+abbrev newRegister : List Named → List ℕ → List ℕ → Bool
+newRegister rs s w = isNewName rs s && isWidth w (decimalAt w 0)
 
+module _ (p : Progress) (s w : List ℕ) where
   abbrev withRegister : List Named → Progress
   withRegister es =
       record { registers = es; labels = p .labels; rows = p .rows; pieces = p .pieces; begun = p .begun; missing = p .missing }
 
-  register-taken : newRegister ≡ true → ltb (length (p .registers)) mostRegisters ≡ true
+  register-taken : newRegister (p .registers) s w ≡ true → ltb (length (p .registers)) mostRegisters ≡ true
       → addRegister p s w ≡ next (withRegister (p .registers ++ (record { name = s; number = widthOf (decimalAt w 0) } ∷ [])))
   unfolding addRegister
   register-taken t u = rw (t, u, addRegister)
 
-  register-full : newRegister ≡ true → ltb (length (p .registers)) mostRegisters ≡ false → addRegister p s w ≡ refused Limit
+  register-full : newRegister (p .registers) s w ≡ true → ltb (length (p .registers)) mostRegisters ≡ false → addRegister p s w ≡ refused Limit
   unfolding addRegister
   register-full t u = rw (t, u, addRegister)
 
-  pub register-bad : newRegister ≡ false → addRegister p s w ≡ refused Register
+  register-bad : newRegister (p .registers) s w ≡ false → addRegister p s w ≡ refused Register
   unfolding addRegister
   register-bad t = rw (t, addRegister)
 
--- the name that a dictionary has got, by the text
+-- a dictionary that has got the name which stands at a start in the text
 one-name : (text s : List ℕ) (d e : Dictionary) (start n m : ℕ) → Added d start (length s) n e → s ≡ take (length s) (drop start text) → n ≡ m
     → entries text e ≡ entries text d ++ (record { name = s; number = m } ∷ [])
 one-name text s d e start n m a at k =
@@ -70,15 +72,12 @@ one-name text s d e start n m a at k =
     ∙ ap (λ (z : Named). entries text d ++ (z ∷ [])) (ap (λ (l : List ℕ). record { name = l; number = n }) (sym at) ∙ ap (λ (i : ℕ). record { name = s; number = i }) k)
 
 module _ (text s w : List ℕ) (q : code.Progress) (h : Within q) where
-  abbrev test : Bool
-  test = isNewName (entries text (q .registers)) s && isWidth w (decimalAt w 0)
-
   abbrev registered : Dictionary → code.Progress
   registered e =
       record { registers = e; labels = q .labels; rows = q .rows; words = q .words; pieces = q .pieces; begun = q .begun; missing = q .missing }
 
-  pub one-register : (e : Dictionary) (start n : ℕ) (r : taken.Step) → test ≡ true → q .registers .count < mostRegisters → Added (q .registers) start (length s) n e
-      → s ≡ take (length s) (drop start text) → n ≡ widthOf (decimalAt w 0) → r ≡ record { progress = registered e; status = Goes }
+  pub one-register : (e : Dictionary) (start n : ℕ) (r : taken.Step) → newRegister (entries text (q .registers)) s w ≡ true → q .registers .count < mostRegisters
+      → Added (q .registers) start (length s) n e → s ≡ take (length s) (drop start text) → n ≡ widthOf (decimalAt w 0) → r ≡ record { progress = registered e; status = Goes }
       → Plain text (λ (p : Progress). addRegister p s w) q r
   one-register e start n r t few a at k is =
       subst (λ (x : taken.Step). Plain text (λ (p : Progress). addRegister p s w) q x) (sym is)
@@ -91,14 +90,14 @@ module _ (text s w : List ℕ) (q : code.Progress) (h : Within q) where
         within = record { few-registers = omega (arith, a .count, few); few-labels = h .few-labels; few-rows = h .few-rows; few-words = h .few-words; few-pieces = h .few-pieces };
       })
 
-  pub no-register : (r : taken.Step) → test ≡ true → mostRegisters ≤ q .registers .count → r ≡ record { progress = q; status = Refused Limit }
-      → Plain text (λ (p : Progress). addRegister p s w) q r
-  no-register r t full is =
+  pub no-register : (r : taken.Step) → newRegister (entries text (q .registers)) s w ≡ true → mostRegisters ≤ q .registers .count
+      → r ≡ record { progress = q; status = Refused Limit } → Plain text (λ (p : Progress). addRegister p s w) q r
+  no-register r t f is =
       plain-refused text (λ (p : Progress). addRegister p s w) q Limit r is
-      (λ rs. register-full (progressOf text q rs) s w t (le-ltb (length (entries text (q .registers))) mostRegisters (omega (arith, entries-length text (q .registers), full))))
+      (λ rs. register-full (progressOf text q rs) s w t (full text (q .registers) mostRegisters f))
       h
 
-  pub bad-register : (r : taken.Step) → test ≡ false → r ≡ record { progress = q; status = Refused Register }
+  pub bad-register : (r : taken.Step) → newRegister (entries text (q .registers)) s w ≡ false → r ≡ record { progress = q; status = Refused Register }
       → Plain text (λ (p : Progress). addRegister p s w) q r
   bad-register r t is =
       plain-refused text (λ (p : Progress). addRegister p s w) q Register r is (λ rs. register-bad (progressOf text q rs) s w t) h
@@ -123,14 +122,14 @@ module _ (p : Progress) (s : List ℕ) where
   label-bad t = rw (t, addLabel)
 
 module _ (text s : List ℕ) (q : code.Progress) (h : Within q) where
-  abbrev fresh : Bool
-  fresh = isNewLabel (entries text (q .labels)) (entries text (q .registers)) s
+  abbrev newLabel : Bool
+  newLabel = isNewLabel (entries text (q .labels)) (entries text (q .registers)) s
 
   abbrev labelled : Dictionary → code.Progress
   labelled e =
       record { registers = q .registers; labels = e; rows = q .rows; words = q .words; pieces = q .pieces; begun = true; missing = q .missing }
 
-  pub one-label : (e : Dictionary) (start : ℕ) (r : taken.Step) → fresh ≡ true → q .labels .count < mostLabels → Added (q .labels) start (length s) 0 e
+  pub one-label : (e : Dictionary) (start : ℕ) (r : taken.Step) → newLabel ≡ true → q .labels .count < mostLabels → Added (q .labels) start (length s) 0 e
       → s ≡ take (length s) (drop start text) → r ≡ record { progress = labelled e; status = Goes }
       → Plain text (λ (p : Progress). addLabel p s) q r
   one-label e start r t few a at is =
@@ -144,18 +143,18 @@ module _ (text s : List ℕ) (q : code.Progress) (h : Within q) where
         within = record { few-registers = h .few-registers; few-labels = omega (arith, a .count, few); few-rows = h .few-rows; few-words = h .few-words; few-pieces = h .few-pieces };
       })
 
-  pub no-label : (r : taken.Step) → fresh ≡ true → mostLabels ≤ q .labels .count → r ≡ record { progress = q; status = Refused Limit }
+  pub no-label : (r : taken.Step) → newLabel ≡ true → mostLabels ≤ q .labels .count → r ≡ record { progress = q; status = Refused Limit }
       → Plain text (λ (p : Progress). addLabel p s) q r
   no-label r t f is =
       plain-refused text (λ (p : Progress). addLabel p s) q Limit r is
       (λ rs. label-full (progressOf text q rs) s t (full text (q .labels) mostLabels f))
       h
 
-  pub bad-label : (r : taken.Step) → fresh ≡ false → r ≡ record { progress = q; status = Refused Label }
+  pub bad-label : (r : taken.Step) → newLabel ≡ false → r ≡ record { progress = q; status = Refused Label }
       → Plain text (λ (p : Progress). addLabel p s) q r
   bad-label r t is = plain-refused text (λ (p : Progress). addLabel p s) q Label r is (λ rs. label-bad (progressOf text q rs) s t) h
 
--- whole lines
+-- whole lines, by their fields
 module _ (p : Progress) (s : List ℕ) where
   pub reg-fields : hasFields 3 s && not (p .begun) ≡ true → regLine p s ≡ addRegister p (field 1 s) (field 2 s)
   unfolding regLine

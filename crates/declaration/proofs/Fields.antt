@@ -1,6 +1,6 @@
 -- The laws of a line's fields within the text: where the second field stands, and how long fields are together.
 -- Assumes nothing.
-use mathlib.Core.Path.{_≡_, sym, ap, subst, _∙_}
+use mathlib.Core.Path.{_≡_, sym, ap, _∙_}
 use mathlib.Core.Bool.{true, _&&_}
 use mathlib.Core.List.{List}
 use Prim.Native.Nat.{ℕ, _+_, _≤_, _<_}
@@ -18,28 +18,30 @@ use Rattle.characters.proofs.Strings.{equal, inner}
 use Rattle.characters.proofs.Tests.{by-test, and-right}
 
 -- a line of several fields has a TAB
-pub has-tab : (n : ℕ) (s : List ℕ) → 1 < n → hasFields n s ≡ true → until tab s < length s
+has-tab : (n : ℕ) (s : List ℕ) → 1 < n → hasFields n s ≡ true → until tab s < length s
 has-tab n s h e =
     by-test (ltb 0 (until tab s) && ltb (until tab s) (length s))
     (λ t. ltb-true (until tab s) (length s) (and-right (ltb 0 (until tab s)) (ltb (until tab s) (length s)) t))
     (λ t. absurd (mathlib.Core.Bool.false≢true (sym (few-fields n s h t) ∙ e)))
 
-pub field-0 : (s : List ℕ) → field 0 s ≡ before tab s
+-- the fields of a line, from the left
+field-0 : (s : List ℕ) → field 0 s ≡ before tab s
 field-0 s = first-field 0 s (omega arith)
 
-pub field-1 : (s : List ℕ) → field 1 s ≡ before tab (after tab s)
+field-1 : (s : List ℕ) → field 1 s ≡ before tab (after tab s)
 field-1 s = next-field 1 s (omega arith) ∙ field-0 (after tab s)
 
-pub field-2 : (s : List ℕ) → field 2 s ≡ before tab (after tab (after tab s))
+field-2 : (s : List ℕ) → field 2 s ≡ before tab (after tab (after tab s))
 field-2 s = next-field 2 s (omega arith) ∙ field-1 (after tab s)
 
-pub field-3 : (s : List ℕ) → field 3 s ≡ before tab (after tab (after tab (after tab s)))
+field-3 : (s : List ℕ) → field 3 s ≡ before tab (after tab (after tab (after tab s)))
 field-3 s = next-field 3 s (omega arith) ∙ field-2 (after tab s)
 
 -- a field and what follows it
-pub before-after : (s : List ℕ) → length (before tab s) + length (after tab s) ≤ length s
+before-after : (s : List ℕ) → length (before tab s) + length (after tab s) ≤ length s
 before-after s = omega (arith, before-length tab s, run-le (Other tab) s, length-drop (until tab s + 1) s)
 
+-- what follows a byte is no longer
 pub after-le : (b : ℕ) (s : List ℕ) → length (after b s) ≤ length s
 after-le b s = omega (arith, length-drop (until b s + 1) s)
 
@@ -61,42 +63,38 @@ module _ (s f : List ℕ) where
 -- the second field of a line that stands at a place in the text, behind a first word
 module _ (text s w : List ℕ) (n place : ℕ) (h : 1 < n) (fields : hasFields n s ≡ true) (e : same (field 0 s) w ≡ true)
     (at : s ≡ take (length s) (drop place text)) where
-  abbrev k : ℕ
-  k = length w + 1
+  -- where it begins in the line, and its size
+  abbrev start : ℕ
+  start = length w + 1
 
-  abbrev m : ℕ
-  m = until tab (after tab s)
+  abbrev size : ℕ
+  size = until tab (after tab s)
 
   word-length : until tab s ≡ length w
   word-length = sym (before-length tab s) ∙ sym (ap length (field-0 s)) ∙ ap length (equal (field 0 s) w e)
 
-  rest-is : after tab s ≡ drop k s
+  rest-is : after tab s ≡ drop start s
   rest-is = ap (λ (i : ℕ). drop (i + 1) s) word-length
 
-  fits : k + m ≤ length s
+  fits : start + size ≤ length s
   fits =
-      omega (arith, run-le (Other tab) (after tab s), ap length rest-is, length-drop k s, has-tab n s h fields, word-length)
+      omega (arith, run-le (Other tab) (after tab s), ap length rest-is, length-drop start s, has-tab n s h fields, word-length)
 
-  found : field 1 s ≡ take m (drop (place + k) text)
+  found : field 1 s ≡ take size (drop (place + start) text)
   found =
       field-1 s
-      ∙ ap (take m) rest-is
-      ∙ ap (λ (l : List ℕ). take m (drop k l)) at
-      ∙ inner (drop place text) m k (length s) fits
-      ∙ ap (take m) (drop-drop k place text)
+      ∙ ap (take size) rest-is
+      ∙ ap (λ (l : List ℕ). take size (drop start l)) at
+      ∙ inner (drop place text) size start (length s) fits
+      ∙ ap (take size) (drop-drop start place text)
 
-  size : length (field 1 s) ≡ m
-  size = ap length (field-1 s) ∙ before-length tab (after tab s)
+  size-is : length (field 1 s) ≡ size
+  size-is = ap length (field-1 s) ∙ before-length tab (after tab s)
 
-  pub second-stands : field 1 s ≡ take (length (field 1 s)) (drop (place + k) text)
-  second-stands = found ∙ ap (λ (i : ℕ). take i (drop (place + k) text)) (sym size)
-
-  pub second-fits : place + k + length (field 1 s) ≤ place + length s
-  second-fits = omega (arith, fits, size)
-
-  -- the same of a list that is the second field
-  pub stands : (f : List ℕ) → f ≡ field 1 s → f ≡ take (length f) (drop (place + k) text)
-  stands f i = subst (λ (l : List ℕ). l ≡ take (length l) (drop (place + k) text)) (sym i) second-stands
-
-  pub fits-in : (f : List ℕ) → f ≡ field 1 s → {most : ℕ} → place + length s ≤ most → place + k + length f ≤ most
-  fits-in f i l = omega (arith, second-fits, ap length i, l)
+  -- a list that is the second field: where it stands in the text, and that it ends there where the line does or sooner
+  pub stands : (f : List ℕ) → f ≡ field 1 s → {most : ℕ} → place + length s ≤ most
+      → (f ≡ take (length f) (drop (place + start) text)) × (place + start + length f ≤ most)
+  stands f i l = (
+    i ∙ found ∙ ap (λ (j : ℕ). take j (drop (place + start) text)) (sym (ap length i ∙ size-is)),
+    omega (arith, fits, ap length i ∙ size-is, l),
+  )

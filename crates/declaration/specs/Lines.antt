@@ -49,7 +49,7 @@ pub data Step : Type 0 where
 abbrev pub among : List ℕ → List Named → Bool
 among s es = ltb (find s es) (length es)
 
--- "width (1 to 16, no leading zero)"
+-- the number that was read, and the place after it
 abbrev pub widthOf : Number → ℕ
 widthOf (Plain w p) = w
 widthOf Unread = 0
@@ -58,6 +58,7 @@ abbrev pub endOf : Number → ℕ
 endOf (Plain w p) = p
 endOf Unread = 0
 
+-- "width (1 to 16, no leading zero)"
 abbrev pub isWidth : List ℕ → Number → Bool
 isWidth s n = leb 1 (widthOf n) && leb (widthOf n) widest && eqb (endOf n) (length s)
 

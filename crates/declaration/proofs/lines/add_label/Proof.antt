@@ -27,19 +27,28 @@ refused-requires-2 c κs = search needs
 
 returns : tie.Need-returns
 returns c =
-    let a = c .before .before .before .before .before .before .before .before .before .args in
-    one-label (a .text .now) (a .label .now) (a .q) (c .before .before .before .before .before .before .before .before .before .pre .0) (c .before .with-name .result) (a .start) (c .taken .result)
-    (rw (← c .before .before .before .before .before .is-new-label .ensures) (c .before .before .before .before .if1 .taken)) (c .before .before .if2 .taken) (c .before .with-name .ensures) (c .before .before .before .before .before .before .before .before .before .pre .1 .0) (c .taken .ensures)
+    let tested = c .before .before .before .before in
+    let called = tested .before .before .before .before .before in
+    let a = called .args in
+    let new = rw (tested .before .is-new-label .ensures) at (tested .if1 .taken) in
+    one-label (a .text .now) (a .label .now) (a .q) (called .pre .0) (c .before .with-name .result) (a .start) (c .taken .result)
+    new (c .before .before .if2 .taken) (c .before .with-name .ensures) (called .pre .1 .0) (c .taken .ensures)
 
 returns-2 : tie.Need-returns-2
 returns-2 c =
-    let a = c .before .before .before .before .before .before .before .before .args in
-    no-label (a .text .now) (a .label .now) (a .q) (c .before .before .before .before .before .before .before .before .pre .0) (c .refused .result) (rw (← c .before .before .before .before .is-new-label .ensures) (c .before .before .before .if1 .taken)) (c .before .if2 .left) (c .refused .ensures)
+    let tested = c .before .before .before in
+    let called = tested .before .before .before .before .before in
+    let a = called .args in
+    let new = rw (tested .before .is-new-label .ensures) at (tested .if1 .taken) in
+    no-label (a .text .now) (a .label .now) (a .q) (called .pre .0) (c .refused .result) new (c .before .if2 .left) (c .refused .ensures)
 
 returns-3 : tie.Need-returns-3
 returns-3 c =
-    let a = c .before .before .before .before .before .before .args in
-    bad-label (a .text .now) (a .label .now) (a .q) (c .before .before .before .before .before .before .pre .0) (c .refused2 .result) (rw (← c .before .before .is-new-label .ensures) (c .before .if1 .left)) (c .refused2 .ensures)
+    let tested = c .before in
+    let called = tested .before .before .before .before .before in
+    let a = called .args in
+    let bad = rw (tested .before .is-new-label .ensures) at (tested .if1 .left) in
+    bad-label (a .text .now) (a .label .now) (a .q) (called .pre .0) (c .refused2 .result) bad (c .refused2 .ensures)
 
 pub add-label-spec : {M : Type 1} → statement M
 add-label-spec =

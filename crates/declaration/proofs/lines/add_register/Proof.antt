@@ -38,24 +38,32 @@ refused-requires-2 c κs = search needs
 
 returns : tie.Need-returns
 returns c =
-    let a = c .before .before .before .before .before .before .before .before .before .before .before .before .before .args in
-    one-register (a .text .now) (a .name .now) (a .width .now) (a .q) (c .before .before .before .before .before .before .before .before .before .before .before .before .before .pre .0) (c .before .with-name .result) (a .start) (c .before .before .width-of .result) (c .taken .result)
-    (rw (← c .before .before .before .before .before .before .before .before .decimal-at .ensures, ← c .before .before .before .before .before .before .before .is-new-name .ensures, ← c .before .before .before .before .before .before .is-width .ensures) (c .before .before .before .before .before .if1 .taken))
-    (c .before .before .before .if2 .taken) (c .before .with-name .ensures) (c .before .before .before .before .before .before .before .before .before .before .before .before .before .pre .1 .0) (c .before .before .width-of .ensures ∙ ap widthOf (c .before .before .before .before .before .before .before .before .decimal-at .ensures)) (c .taken .ensures)
+    let tested = c .before .before .before .before .before in
+    let number = tested .before .before .before in
+    let called = number .before .before .before .before .before in
+    let a = called .args in
+    let new = rw (tested .before .before .is-new-name .ensures, tested .before .is-width .ensures, number .decimal-at .ensures) at (tested .if1 .taken) in
+    let width = c .before .before .width-of .ensures ∙ ap widthOf (number .decimal-at .ensures) in
+    one-register (a .text .now) (a .name .now) (a .width .now) (a .q) (called .pre .0) (c .before .with-name .result) (a .start) (c .before .before .width-of .result) (c .taken .result)
+    new (c .before .before .before .if2 .taken) (c .before .with-name .ensures) (called .pre .1 .0) width (c .taken .ensures)
 
 returns-2 : tie.Need-returns-2
 returns-2 c =
-    let a = c .before .before .before .before .before .before .before .before .before .before .before .args in
-    no-register (a .text .now) (a .name .now) (a .width .now) (a .q) (c .before .before .before .before .before .before .before .before .before .before .before .pre .0) (c .refused .result)
-    (rw (← c .before .before .before .before .before .before .decimal-at .ensures, ← c .before .before .before .before .before .is-new-name .ensures, ← c .before .before .before .before .is-width .ensures) (c .before .before .before .if1 .taken))
-    (c .before .if2 .left) (c .refused .ensures)
+    let tested = c .before .before .before in
+    let number = tested .before .before .before in
+    let called = number .before .before .before .before .before in
+    let a = called .args in
+    let new = rw (tested .before .before .is-new-name .ensures, tested .before .is-width .ensures, number .decimal-at .ensures) at (tested .if1 .taken) in
+    no-register (a .text .now) (a .name .now) (a .width .now) (a .q) (called .pre .0) (c .refused .result) new (c .before .if2 .left) (c .refused .ensures)
 
 returns-3 : tie.Need-returns-3
 returns-3 c =
-    let a = c .before .before .before .before .before .before .before .before .before .args in
-    bad-register (a .text .now) (a .name .now) (a .width .now) (a .q) (c .before .before .before .before .before .before .before .before .before .pre .0) (c .refused2 .result)
-    (rw (← c .before .before .before .before .decimal-at .ensures, ← c .before .before .before .is-new-name .ensures, ← c .before .before .is-width .ensures) (c .before .if1 .left))
-    (c .refused2 .ensures)
+    let tested = c .before in
+    let number = tested .before .before .before in
+    let called = number .before .before .before .before .before in
+    let a = called .args in
+    let bad = rw (tested .before .before .is-new-name .ensures, tested .before .is-width .ensures, number .decimal-at .ensures) at (tested .if1 .left) in
+    bad-register (a .text .now) (a .name .now) (a .width .now) (a .q) (called .pre .0) (c .refused2 .result) bad (c .refused2 .ensures)
 
 pub add-register-spec : {M : Type 1} → statement M
 add-register-spec =

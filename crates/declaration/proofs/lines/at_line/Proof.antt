@@ -3,7 +3,7 @@ use mathlib.Core.Path.{sym, _∙_}
 use native.Mathlib.Omega.{arith}
 use Rattle.declaration.specs.declared.faults.Fault.the-variants.{Line}
 use Rattle.declaration.specs.Lines.{atWord, atLine, addLabel}
-use Rattle.declaration.proofs.Fields.{stands, fits-in}
+use Rattle.declaration.proofs.Fields.{stands}
 use Rattle.declaration.proofs.Declarations.{plain-as, plain-refused, at-fields, at-malformed}
 use borrow.Author.Needs.{needs}
 use Rattle.declaration.proofs.lines.at_line.Statement.{statement}
@@ -20,9 +20,11 @@ field-of-requires c κs = search needs
 
 add-label-requires : tie.Need-add-label-requires
 add-label-requires c κs =
-    let a = c .before .before .before .before .before .args in
+    let called = c .before .before .before .before .before in
+    let a = called .args in
+    let h = called .pre in
     let fields = sym (c .before .before .has-fields .ensures) ∙ c .before .if1 .taken in
-    (c .before .before .before .before .before .pre .0, (stands (a .text .now) (a .line .now) atWord 2 (a .place) (omega arith) fields (c .before .before .before .before .before .pre .1 .1 .1) (c .before .before .before .before .before .pre .1 .0) _ (c .field-of .ensures), fits-in (a .text .now) (a .line .now) atWord 2 (a .place) (omega arith) fields (c .before .before .before .before .before .pre .1 .1 .1) (c .before .before .before .before .before .pre .1 .0) _ (c .field-of .ensures) (c .before .before .before .before .before .pre .1 .1 .0)))
+    (h .0, stands (a .text .now) (a .line .now) atWord 2 (a .place) (omega arith) fields (h .1 .1 .1) (h .1 .0) _ (c .field-of .ensures) (h .1 .1 .0))
 
 refused-requires : tie.Need-refused-requires
 refused-requires c κs = search needs
@@ -30,14 +32,17 @@ refused-requires c κs = search needs
 returns : tie.Need-returns
 returns c =
     let a = c .before .before .before .before .before .before .args in
+    let fields = sym (c .before .before .before .has-fields .ensures) ∙ c .before .before .if1 .taken in
     plain-as (a .text .now) (λ p. atLine p (a .line .now)) (λ p. addLabel p _) (a .q) (c .add-label .result)
-    (λ rs. at-fields _ (a .line .now) (sym (c .before .before .before .has-fields .ensures) ∙ c .before .before .if1 .taken) ∙ rw (c .before .field-of .ensures)) (c .add-label .ensures)
+    (λ rs. at-fields _ (a .line .now) fields ∙ rw (c .before .field-of .ensures)) (c .add-label .ensures)
 
 returns-2 : tie.Need-returns-2
 returns-2 c =
-    let a = c .before .before .before .before .before .args in
+    let called = c .before .before .before .before .before in
+    let a = called .args in
+    let malformed = sym (c .before .before .has-fields .ensures) ∙ c .before .if1 .left in
     plain-refused (a .text .now) (λ p. atLine p (a .line .now)) (a .q) Line (c .refused .result) (c .refused .ensures)
-    (λ rs. at-malformed _ (a .line .now) (sym (c .before .before .has-fields .ensures) ∙ c .before .if1 .left)) (c .before .before .before .before .before .pre .0)
+    (λ rs. at-malformed _ (a .line .now) malformed) (called .pre .0)
 
 pub at-line-spec : {M : Type 1} → statement M
 at-line-spec =

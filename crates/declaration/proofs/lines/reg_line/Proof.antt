@@ -6,7 +6,7 @@ use Rattle.fields.specs.Fields.{hasFields}
 use Rattle.characters.proofs.Tests.{and-left}
 use Rattle.declaration.specs.declared.faults.Fault.the-variants.{Line}
 use Rattle.declaration.specs.Lines.{regWord, regLine, addRegister}
-use Rattle.declaration.proofs.Fields.{stands, fits-in}
+use Rattle.declaration.proofs.Fields.{stands}
 use Rattle.declaration.proofs.Declarations.{plain-as, plain-refused, reg-fields, reg-malformed}
 use borrow.Author.Needs.{needs}
 use Rattle.declaration.proofs.lines.reg_line.Statement.{statement}
@@ -26,10 +26,12 @@ field-of-requires-2 c κs = search needs
 
 add-register-requires : tie.Need-add-register-requires
 add-register-requires c κs =
-    let a = c .before .before .before .before .before .before .before .args in
+    let called = c .before .before .before .before .before .before .before in
+    let a = called .args in
+    let h = called .pre in
     let t = rw (c .before .before .before .before .has-fields .ensures) at (c .before .before .if1 .taken) in
     let fields = and-left (hasFields 3 (a .line .now)) (not (a .q .begun)) t in
-    (c .before .before .before .before .before .before .before .pre .0, (stands (a .text .now) (a .line .now) regWord 3 (a .place) (omega arith) fields (c .before .before .before .before .before .before .before .pre .1 .1 .1) (c .before .before .before .before .before .before .before .pre .1 .0) _ (c .before .field-of .ensures), fits-in (a .text .now) (a .line .now) regWord 3 (a .place) (omega arith) fields (c .before .before .before .before .before .before .before .pre .1 .1 .1) (c .before .before .before .before .before .before .before .pre .1 .0) _ (c .before .field-of .ensures) (c .before .before .before .before .before .before .before .pre .1 .1 .0)))
+    (h .0, stands (a .text .now) (a .line .now) regWord 3 (a .place) (omega arith) fields (h .1 .1 .1) (h .1 .0) _ (c .before .field-of .ensures) (h .1 .1 .0))
 
 refused-requires : tie.Need-refused-requires
 refused-requires c κs = search needs
@@ -37,14 +39,17 @@ refused-requires c κs = search needs
 returns : tie.Need-returns
 returns c =
     let a = c .before .before .before .before .before .before .before .before .args in
+    let fields = rw (c .before .before .before .before .before .has-fields .ensures) at (c .before .before .before .if1 .taken) in
     plain-as (a .text .now) (λ p. regLine p (a .line .now)) (λ p. addRegister p _ _) (a .q) (c .add-register .result)
-    (λ rs. reg-fields _ (a .line .now) (rw (← c .before .before .before .before .before .has-fields .ensures) (c .before .before .before .if1 .taken)) ∙ rw (c .before .before .field-of .ensures, c .before .field-of2 .ensures)) (c .add-register .ensures)
+    (λ rs. reg-fields _ (a .line .now) fields ∙ rw (c .before .before .field-of .ensures, c .before .field-of2 .ensures)) (c .add-register .ensures)
 
 returns-2 : tie.Need-returns-2
 returns-2 c =
-    let a = c .before .before .before .before .before .before .args in
+    let called = c .before .before .before .before .before .before in
+    let a = called .args in
+    let malformed = rw (c .before .before .before .has-fields .ensures) at (c .before .if1 .left) in
     plain-refused (a .text .now) (λ p. regLine p (a .line .now)) (a .q) Line (c .refused .result) (c .refused .ensures)
-    (λ rs. reg-malformed _ (a .line .now) (rw (← c .before .before .before .has-fields .ensures) (c .before .if1 .left))) (c .before .before .before .before .before .before .pre .0)
+    (λ rs. reg-malformed _ (a .line .now) malformed) (called .pre .0)
 
 pub reg-line-spec : {M : Type 1} → statement M
 reg-line-spec =

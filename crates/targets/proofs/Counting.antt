@@ -13,6 +13,7 @@ use Rattle.targets.specs.declared.Target.{Target}
 use Rattle.targets.specs.declared.Target.the-variants.{Passes, Missing}
 use Rattle.targets.specs.Targets.{isAt, isRow, further, passes}
 
+-- no rows further down, and one row more
 pub from-none : (t : Target) → t ≡ further 0 t
 from-none (Passes n) = ap Passes (sym (zero-add n))
 from-none Missing = refl
@@ -21,6 +22,7 @@ one-further : (k : ℕ) (t : Target) → further k (further 1 t) ≡ further (k 
 one-further k (Passes n) = ap Passes (omega arith)
 one-further k Missing = refl
 
+-- by what the first line is: the label's, a row, or another
 module _ (label : List ℕ) (l : Line) (ls : List Line) where
   here : isAt label (l .bytes) ≡ true → passes label (l ∷ ls) ≡ Passes 0
   unfolding passes
@@ -34,7 +36,7 @@ module _ (label : List ℕ) (l : Line) (ls : List Line) where
   unfolding passes
   other e f = rw (e, f, passes)
 
--- n rows down, the rest begins with a line
+-- the same of what is left of the text, n rows down
 module _ (label rest : List ℕ) (n : ℕ) where
   pub arrived : 0 < length rest → isAt label (before lineFeed rest) ≡ true → further n (passes label (lines rest)) ≡ Passes n
   arrived h e =

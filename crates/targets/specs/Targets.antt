@@ -4,8 +4,7 @@ use Prim.Native.Nat.{ℕ, _+_}
 use mathlib.Core.Bool.{Bool, true, false, _&&_, _||_}
 use mathlib.Core.List.{List, [], _∷_}
 use Rattle.characters.specs.Characters.{same}
-use Rattle.fields.specs.Fields as text
-use Rattle.fields.specs.Fields.{field}
+use Rattle.fields.specs.Fields.{Line, field}
 use Rattle.targets.specs.declared.Target.{Target}
 use Rattle.targets.specs.declared.Target.the-variants.{Passes, Missing}
 use Rattle.declaration.specs.Lines.{doWord, goWord, atWord}
@@ -24,7 +23,7 @@ further k (Passes n) = Passes (k + n)
 further k Missing = Missing
 
 -- "continue after that label, which must stand lower": the rows down to the line that has it
-unfoldable pub passes : List ℕ → List text.Line → Target
+unfoldable pub passes : List ℕ → List Line → Target
 passes label [] = Missing
 passes label (l ∷ ls) =
     elim (isAt label (l .bytes)) [

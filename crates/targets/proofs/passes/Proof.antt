@@ -5,7 +5,7 @@ use mathlib.Core.List.{List}
 use Prim.Native.Nat.{ℕ, _+_, _≤_, _<_}
 use native.Mathlib.Omega.{arith}
 use lib.ListN.{length, length-drop}
-use Rattle.fields.specs.Fields.{lineFeed, until, after, Line, lines}
+use Rattle.fields.specs.Fields.{lineFeed, until, after, lines}
 use Rattle.targets.specs.Targets.{isAt, isRow, further, passes}
 use Rattle.targets.proofs.Counting.{from-none, arrived, past-row, past-other, nowhere}
 use borrow.Author.Needs.{needs}
@@ -37,14 +37,17 @@ is-at-requires c κs = search needs
 returns : tie.Need-returns Inv-loop μ-loop
 returns c =
     let l = c .before .before .before .before .loop in
-    sym (l .inv .0 ∙ arrived (c .before .before .before .before .before .before .before .args .label .now) (l .rest .now) (l .n) (c .before .before .before .loop-test .taken) (ap (isAt (c .before .before .before .before .before .before .before .args .label .now)) (sym (c .before .before .part-before .ensures)) ∙ sym (c .before .is-at .ensures) ∙ c .if1 .taken))
+    let label = c .before .before .before .before .before .before .before .args .label .now in
+    let at = ap (isAt label) (sym (c .before .before .part-before .ensures)) ∙ sym (c .before .is-at .ensures) ∙ c .if1 .taken in
+    sym (l .inv .0 ∙ arrived label (l .rest .now) (l .n) (c .before .before .before .loop-test .taken) at)
 
 is-row-requires : tie.Need-is-row-requires Inv-loop μ-loop
 is-row-requires c κs = search needs
 
 add-n : tie.Need-add-n Inv-loop μ-loop
 add-n c =
-    omega (arith, c .before .before .before .before .before .before .loop .inv .1, c .before .before .before .before .before .loop-test .taken, c .before .before .before .before .before .before .before .before .before .pre)
+    let looped = c .before .before .before .before .before .before in
+    omega (arith, looped .loop .inv .1, c .before .before .before .before .before .loop-test .taken, looped .before .before .before .pre)
 
 part-after-requires : tie.Need-part-after-requires Inv-loop μ-loop
 part-after-requires c κs = search needs
@@ -55,16 +58,25 @@ loop-less c =
 
 loop-again : tie.Need-loop-again Inv-loop μ-loop
 loop-again c =
-    let l = c .before .before .before .before .before .before .before .loop in
-    let label = c .before .before .before .before .before .before .before .before .before .before .args .label .now in
-    let h = c .before .before .before .before .before .before .loop-test .taken in
-    let at = ap (isAt label) (sym (c .before .before .before .before .before .part-before .ensures)) ∙ sym (c .before .before .before .before .is-at .ensures) ∙ c .before .before .before .if1 .left in
-    let row = ap isRow (sym (c .before .before .before .before .before .part-before .ensures)) ∙ sym (c .before .before .is-row .ensures) in
-    let rest = ap (λ (s : List ℕ). lines s) (sym (c .part-after .ensures)) in
+    let tested = c .before .before .before in
+    let looped = tested .before .before .before .before in
+    let l = looped .loop in
+    let label = looped .before .before .before .args .label .now in
+    let h = tested .before .before .before .loop-test .taken in
+    let line = sym (tested .before .before .part-before .ensures) in
+    let at = ap (isAt label) line ∙ sym (tested .before .is-at .ensures) ∙ tested .if1 .left in
+    let row = ap isRow line ∙ sym (c .before .before .is-row .ensures) in
+    let rest = sym (c .part-after .ensures) in
     let less = shorter (l .rest .now) _ h (c .part-after .ensures) in
     elim (c .before .if2 .came) [
-      | inl y ↦ (l .inv .0 ∙ past-row label (l .rest .now) (l .n) h at (row ∙ y .0 .taken) ∙ rw (y .1) (ap (λ (ls : List Line). further (l .n + 1) (passes label ls)) rest), omega (arith, l .inv .1, less, y .1))
-      | inr y ↦ (l .inv .0 ∙ past-other label (l .rest .now) (l .n) h at (row ∙ y .0 .left) ∙ rw (y .1) (ap (λ (ls : List Line). further (l .n) (passes label ls)) rest), omega (arith, l .inv .1, less, y .1))
+      | inl y ↦ (
+        l .inv .0 ∙ past-row label (l .rest .now) (l .n) h at (row ∙ y .0 .taken) ∙ rw (y .1) (ap (λ (s : List ℕ). further (l .n + 1) (passes label (lines s))) rest),
+        omega (arith, l .inv .1, less, y .1),
+      )
+      | inr y ↦ (
+        l .inv .0 ∙ past-other label (l .rest .now) (l .n) h at (row ∙ y .0 .left) ∙ rw (y .1) (ap (λ (s : List ℕ). further (l .n) (passes label (lines s))) rest),
+        omega (arith, l .inv .1, less, y .1),
+      )
     ]
 
 returns-2 : tie.Need-returns-2 Inv-loop μ-loop

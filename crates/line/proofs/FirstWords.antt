@@ -20,7 +20,7 @@ use Rattle.declaration.specs.declared.lines.Progress as code
 use Rattle.declaration.specs.declared.lines.Status.the-variants.{Refused}
 use Rattle.declaration.specs.declared.lines.Step as taken
 use Rattle.text_limits.specs.Limits.{longestLine}
-use Rattle.declaration.specs.Lines.{regWord, doWord, goWord, atWord, Progress, refused, regLine, atLine}
+use Rattle.declaration.specs.Lines.{regWord, doWord, goWord, atWord, Progress, Step, refused, regLine, atLine}
 use Rattle.declaration.specs.Stored.{progressOf, Within}
 use Rattle.row.specs.Lines.{doLine, goLine}
 use Rattle.row.specs.Stored.{Takes}
@@ -65,86 +65,73 @@ line-stands text rest line r e =
     ∙ ap (take (until lineFeed rest)) (r .is)
     ∙ ap (λ (k : ℕ). take k (drop (length text - length rest) text)) (sym (ap length e ∙ before-length lineFeed rest))
 
+-- it ends with the text or sooner
 pub line-fits : (text rest line : List ℕ) → Rest text rest → {most : ℕ} → length text ≤ most → line ≡ before lineFeed rest → length text - length rest + length line ≤ most
 line-fits text rest line r h e = omega (arith, r .fits, h, ap length e ∙ before-length lineFeed rest, run-le (Other lineFeed) rest)
 
 -- the first line of a rest, as the code finds it
-abbrev fit : List ℕ → List ℕ → Bool
-fit rest line = isFit (record { bytes = line; ended = ltb (until lineFeed rest) (length rest) })
+abbrev found : List ℕ → List ℕ → fields.Line
+found rest line = record { bytes = line; ended = ltb (until lineFeed rest) (length rest) }
 
 -- a fit line is short
-pub fit-length : (rest line : List ℕ) → fit rest line ≡ true → length line ≤ longestLine
+pub fit-length : (rest line : List ℕ) → isFit (found rest line) ≡ true → length line ≤ longestLine
 fit-length rest line e =
     let b = ltb (until lineFeed rest) (length rest) in
     leb-true (length line) longestLine
     (and-right b (leb (length line) longestLine) (and-left (b && leb (length line) longestLine) (eqb (run Printable line) (length line)) e))
 
-fit-is : (rest line : List ℕ) (b : Bool) → line ≡ before lineFeed rest → fit rest line ≡ b → isFit (firstLine rest) ≡ b
-fit-is rest line b first e = ap (fit rest) (sym first) ∙ e
+-- what it comes to, by its first word: what is read of a line above the lines below it, and that the code's answer is what a definition says
+module _ (text : List ℕ) (q : code.Progress) (n : ℕ) (rest line : List ℕ) (first : line ≡ before lineFeed rest) (r : taken.Step) (code₁ code₂ table₁ table₂ : List ℕ) where
+  abbrev below : List fields.Line
+  below = lines (after lineFeed rest)
 
-word-is : (rest line word w : List ℕ) (b : Bool) → line ≡ before lineFeed rest → word ≡ field 0 line → same word w ≡ b → same (field 0 (before lineFeed rest)) w ≡ b
-word-is rest line word w b first zeroth e =
-    ap (λ (l : List ℕ). same (field 0 l) w) (sym first) ∙ ap (λ (l : List ℕ). same l w) (sym zeroth) ∙ e
+  abbrev reads : fields.Line → Progress → Step
+  reads l p = readLine p n below l
 
--- what it comes to, by its first word
-module _ (text : List ℕ) (q : code.Progress) (n : ℕ) (rest line : List ℕ) (first : line ≡ before lineFeed rest) (r : taken.Step) {code₁ code₂ table₁ table₂ : List ℕ} where
-  pub comes-unfit : fit rest line ≡ false → r ≡ record { progress = q; status = Refused Line } → Within q
-      → Takes text (λ (p : Progress). readLine p n (lines (after lineFeed rest)) (firstLine rest)) q r code₁ code₂ table₁ table₂
-  comes-unfit e is h =
-      takes-refused text (λ (p : Progress). readLine p n (lines (after lineFeed rest)) (firstLine rest)) q Line r is
-      (λ rs. line-unfit (progressOf text q rs) n (lines (after lineFeed rest)) (firstLine rest) (fit-is rest line false first e))
-      h
+  abbrev Comes : (Progress → Step) → Type 0
+  Comes g = Takes text g q r code₁ code₂ table₁ table₂
 
-  module _ (e : fit rest line ≡ true) (word : List ℕ) (zeroth : word ≡ field 0 line) where
-    pub comes-reg : same word regWord ≡ true → Takes text (λ (p : Progress). regLine p line) q r code₁ code₂ table₁ table₂
-        → Takes text (λ (p : Progress). readLine p n (lines (after lineFeed rest)) (firstLine rest)) q r code₁ code₂ table₁ table₂
-    comes-reg a k =
-        takes-as text (λ (p : Progress). readLine p n (lines (after lineFeed rest)) (firstLine rest)) (λ (p : Progress). regLine p line) q r
-        (λ rs.
-        line-reg (progressOf text q rs) n (lines (after lineFeed rest)) (firstLine rest) (fit-is rest line true first e) (word-is rest line word regWord true first zeroth a)
-        ∙ ap (regLine (progressOf text q rs)) (sym first))
-        k
+  -- the line that was found is the rest's first, so what holds of it by the definition holds of that: it is taken so, or refused
+  as-found : (p : Progress) → reads (firstLine rest) p ≡ reads (found rest line) p
+  as-found p = ap (λ (l : List ℕ). reads (found rest l) p) (sym first)
+
+  comes-as : (g : Progress → Step) → ((p : Progress) → reads (found rest line) p ≡ g p) → Comes g → Comes (reads (firstLine rest))
+  comes-as g e = takes-as text (reads (firstLine rest)) g q r (λ rs. as-found (progressOf text q rs) ∙ e (progressOf text q rs))
+
+  comes-refused : ((p : Progress) → reads (found rest line) p ≡ refused Line) → r ≡ record { progress = q; status = Refused Line } → Within q
+      → Comes (reads (firstLine rest))
+  comes-refused e is h = takes-refused text (reads (firstLine rest)) q Line r is (λ rs. as-found (progressOf text q rs) ∙ e (progressOf text q rs)) h
+
+  pub comes-unfit : isFit (found rest line) ≡ false → r ≡ record { progress = q; status = Refused Line } → Within q → Comes (reads (firstLine rest))
+  comes-unfit e = comes-refused (λ p. line-unfit p n below (found rest line) e)
+
+  module _ (e : isFit (found rest line) ≡ true) (word : List ℕ) (zeroth : word ≡ field 0 line) where
+    is-word : (w : List ℕ) (b : Bool) → same word w ≡ b → same (field 0 line) w ≡ b
+    is-word w b i = ap (λ (l : List ℕ). same l w) (sym zeroth) ∙ i
+
+    pub comes-reg : same word regWord ≡ true → Comes (λ p. regLine p line) → Comes (reads (firstLine rest))
+    comes-reg a = comes-as (λ p. regLine p line) (λ p. line-reg p n below (found rest line) e (is-word regWord true a))
 
     module _ (a : same word regWord ≡ false) where
-      pub comes-do : same word doWord ≡ true → Takes text (λ (p : Progress). doLine p line) q r code₁ code₂ table₁ table₂
-          → Takes text (λ (p : Progress). readLine p n (lines (after lineFeed rest)) (firstLine rest)) q r code₁ code₂ table₁ table₂
-      comes-do b k =
-          takes-as text (λ (p : Progress). readLine p n (lines (after lineFeed rest)) (firstLine rest)) (λ (p : Progress). doLine p line) q r
-          (λ rs.
-          line-do (progressOf text q rs) n (lines (after lineFeed rest)) (firstLine rest) (fit-is rest line true first e) (word-is rest line word regWord false first zeroth a)
-          (word-is rest line word doWord true first zeroth b)
-          ∙ ap (doLine (progressOf text q rs)) (sym first))
-          k
+      pub comes-do : same word doWord ≡ true → Comes (λ p. doLine p line) → Comes (reads (firstLine rest))
+      comes-do b = comes-as (λ p. doLine p line) (λ p. line-do p n below (found rest line) e (is-word regWord false a) (is-word doWord true b))
 
       module _ (b : same word doWord ≡ false) where
-        pub comes-go : same word goWord ≡ true → (below : List ℕ) → below ≡ after lineFeed rest
-            → Takes text (λ (p : Progress). goLine p n (lines below) line) q r code₁ code₂ table₁ table₂
-            → Takes text (λ (p : Progress). readLine p n (lines (after lineFeed rest)) (firstLine rest)) q r code₁ code₂ table₁ table₂
-        comes-go d below i k =
-            takes-as text (λ (p : Progress). readLine p n (lines (after lineFeed rest)) (firstLine rest)) (λ (p : Progress). goLine p n (lines below) line) q r
-            (λ rs.
-            line-go (progressOf text q rs) n (lines (after lineFeed rest)) (firstLine rest) (fit-is rest line true first e) (word-is rest line word regWord false first zeroth a)
-            (word-is rest line word doWord false first zeroth b) (word-is rest line word goWord true first zeroth d)
-            ∙ ap (goLine (progressOf text q rs) n (lines (after lineFeed rest))) (sym first)
-            ∙ ap (λ (l : List ℕ). goLine (progressOf text q rs) n (lines l) line) (sym i))
-            k
+        pub comes-go : same word goWord ≡ true → (tail : List ℕ) → tail ≡ after lineFeed rest → Comes (λ p. goLine p n (lines tail) line)
+            → Comes (reads (firstLine rest))
+        comes-go d tail i =
+            comes-as (λ p. goLine p n (lines tail) line)
+            (λ p.
+            line-go p n below (found rest line) e (is-word regWord false a) (is-word doWord false b) (is-word goWord true d)
+            ∙ ap (λ (l : List ℕ). goLine p n (lines l) line) (sym i))
 
         module _ (d : same word goWord ≡ false) where
-          pub comes-at : same word atWord ≡ true → Takes text (λ (p : Progress). atLine p line) q r code₁ code₂ table₁ table₂
-              → Takes text (λ (p : Progress). readLine p n (lines (after lineFeed rest)) (firstLine rest)) q r code₁ code₂ table₁ table₂
-          comes-at g k =
-              takes-as text (λ (p : Progress). readLine p n (lines (after lineFeed rest)) (firstLine rest)) (λ (p : Progress). atLine p line) q r
-              (λ rs.
-              line-at (progressOf text q rs) n (lines (after lineFeed rest)) (firstLine rest) (fit-is rest line true first e) (word-is rest line word regWord false first zeroth a)
-              (word-is rest line word doWord false first zeroth b) (word-is rest line word goWord false first zeroth d) (word-is rest line word atWord true first zeroth g)
-              ∙ ap (atLine (progressOf text q rs)) (sym first))
-              k
+          pub comes-at : same word atWord ≡ true → Comes (λ p. atLine p line) → Comes (reads (firstLine rest))
+          comes-at g =
+              comes-as (λ p. atLine p line)
+              (λ p. line-at p n below (found rest line) e (is-word regWord false a) (is-word doWord false b) (is-word goWord false d) (is-word atWord true g))
 
-          pub comes-unknown : same word atWord ≡ false → r ≡ record { progress = q; status = Refused Line } → Within q
-              → Takes text (λ (p : Progress). readLine p n (lines (after lineFeed rest)) (firstLine rest)) q r code₁ code₂ table₁ table₂
-          comes-unknown g is h =
-              takes-refused text (λ (p : Progress). readLine p n (lines (after lineFeed rest)) (firstLine rest)) q Line r is
-              (λ rs.
-              line-unknown (progressOf text q rs) n (lines (after lineFeed rest)) (firstLine rest) (fit-is rest line true first e) (word-is rest line word regWord false first zeroth a)
-              (word-is rest line word doWord false first zeroth b) (word-is rest line word goWord false first zeroth d) (word-is rest line word atWord false first zeroth g))
-              h
+          pub comes-unknown : same word atWord ≡ false → r ≡ record { progress = q; status = Refused Line } → Within q → Comes (reads (firstLine rest))
+          comes-unknown g =
+              comes-refused
+              (λ p. line-unknown p n below (found rest line) e (is-word regWord false a) (is-word doWord false b) (is-word goWord false d) (is-word atWord false g))

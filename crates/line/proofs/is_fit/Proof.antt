@@ -18,9 +18,11 @@ run-end-requires c κs = search needs
 
 returns : tie.Need-returns
 returns c =
-    let e = ap length (c .before .before .before .pre) ∙ before-length lineFeed (c .before .before .before .args .rest .now) in
-    ap (λ (k : ℕ). ltb k (length (c .before .before .before .args .rest .now)) && leb (length (c .before .before .before .args .line .now)) longestLine && eqb (c .run-end .result) (length (c .before .before .before .args .line .now))) e
-    ∙ ap (λ (k : ℕ). ltb (until lineFeed (c .before .before .before .args .rest .now)) (length (c .before .before .before .args .rest .now)) && leb (length (c .before .before .before .args .line .now)) longestLine && eqb k (length (c .before .before .before .args .line .now))) (c .run-end .ensures ∙ from-start Printable (c .before .before .before .args .line .now))
+    let called = c .before .before .before in
+    let line = called .args .line .now in
+    let rest = called .args .rest .now in
+    ap (λ (k : ℕ). ltb k (length rest) && leb (length line) longestLine && eqb (c .run-end .result) (length line)) (ap length (called .pre) ∙ before-length lineFeed rest)
+    ∙ ap (λ (k : ℕ). ltb (until lineFeed rest) (length rest) && leb (length line) longestLine && eqb k (length line)) (c .run-end .ensures ∙ from-start Printable line)
 
 pub is-fit-spec : {M : Type 1} → statement M
 is-fit-spec = tie.close (tie.spec run-end-requires returns)

@@ -27,9 +27,12 @@ refused-requires c κs = search needs
 
 returns : tie.Need-returns
 returns c =
-    let a = c .before .before .before .before .before .before .args in
-    comes-unfit (a .text .now) (a .q) (a .n) (a .rest .now) (c .before .before .before .part-before .result .now) (c .before .before .before .part-before .ensures) (c .refused .result)
-    (sym (c .before .before .is-fit .ensures) ∙ not-true _ (c .before .if1 .taken)) (c .refused .ensures) (c .before .before .before .before .before .before .pre .0)
+    let found = c .before .before .before in
+    let called = found .before .before .before in
+    let a = called .args in
+    let unfit = sym (c .before .before .is-fit .ensures) ∙ not-true _ (c .before .if1 .taken) in
+    comes-unfit (a .text .now) (a .q) (a .n) (a .rest .now) (found .part-before .result .now) (found .part-before .ensures) (c .refused .result) _ _ _ _
+    unfit (c .refused .ensures) (called .pre .0)
 
 field-of-requires : tie.Need-field-of-requires
 field-of-requires c κs = search needs
@@ -46,16 +49,27 @@ sub-reg-line c =
 
 reg-line-requires : tie.Need-reg-line-requires
 reg-line-requires c κs =
-    let a = c .before .before .before .before .before .before .before .before .before .args in
-    let p = c .before .before .before .before .before .before .before .before .before .pre in
-    (p .0, (line-stands (a .text .now) (a .rest .now) _ (p .1 .1) (c .before .before .before .before .before .before .part-before .ensures), (line-fits (a .text .now) (a .rest .now) _ (p .1 .1) (p .1 .0) (c .before .before .before .before .before .before .part-before .ensures), ap (λ (l : List ℕ). same l regWord) (sym (c .before .before .before .field-of .ensures)) ∙ sym (c .before .is-same .ensures) ∙ c .if2 .taken)))
+    let worded = c .before .before .before in
+    let found = worded .before .before .before in
+    let called = found .before .before .before in
+    let a = called .args in
+    let h = called .pre in
+    let stands = line-stands (a .text .now) (a .rest .now) _ (h .1 .1) (found .part-before .ensures) in
+    let fits = line-fits (a .text .now) (a .rest .now) _ (h .1 .1) (h .1 .0) (found .part-before .ensures) in
+    let word = ap (λ (l : List ℕ). same l regWord) (sym (worded .field-of .ensures)) ∙ sym (c .before .is-same .ensures) ∙ c .if2 .taken in
+    (h .0, (stands, (fits, word)))
 
 returns-2 : tie.Need-returns-2
 returns-2 c =
-    let a = c .before .before .before .before .before .before .before .before .before .before .args in
-    comes-reg (a .text .now) (a .q) (a .n) (a .rest .now) (c .before .before .before .before .before .before .before .part-before .result .now) (c .before .before .before .before .before .before .before .part-before .ensures) (c .reg-line .result)
-    (sym (c .before .before .before .before .before .before .is-fit .ensures) ∙ not-false _ (c .before .before .before .before .before .if1 .left)) (c .before .before .before .before .field-of .result .now) (c .before .before .before .before .field-of .ensures)
-    (sym (c .before .before .is-same .ensures) ∙ c .before .if2 .taken) (takes-plain _ _ (a .q) _ (c .reg-line .ensures))
+    let reg = c .before in
+    let worded = reg .before .before .before in
+    let found = worded .before .before .before in
+    let called = found .before .before .before in
+    let a = called .args in
+    let fit = sym (worded .before .before .is-fit .ensures) ∙ not-false _ (worded .before .if1 .left) in
+    comes-reg (a .text .now) (a .q) (a .n) (a .rest .now) (found .part-before .result .now) (found .part-before .ensures) (c .reg-line .result) _ _ _ _
+    fit (worded .field-of .result .now) (worded .field-of .ensures)
+    (sym (reg .before .is-same .ensures) ∙ reg .if2 .taken) (takes-plain _ _ (a .q) _ (c .reg-line .ensures))
 
 slice-aggregate-is-same-2 : tie.Need-slice-aggregate-is-same-2
 slice-aggregate-is-same-2 c = search needs
@@ -65,14 +79,24 @@ is-same-requires-2 c κs = search needs
 
 do-line-requires : tie.Need-do-line-requires
 do-line-requires c κs =
-    (c .before .before .before .before .before .before .before .before .before .before .before .before .before .before .pre .0, fit-length (c .before .before .before .before .before .before .before .before .before .before .before .before .before .before .args .rest .now) (c .before .before .before .before .before .before .before .before .before .before .before .part-before .result .now) (sym (c .before .before .before .before .before .before .before .before .before .before .is-fit .ensures) ∙ not-false _ (c .before .before .before .before .before .before .before .before .before .if1 .left)))
+    let worded = c .before .before .before .before .before .before .before .before in
+    let found = worded .before .before .before in
+    let called = found .before .before .before in
+    let fit = sym (worded .before .before .is-fit .ensures) ∙ not-false _ (worded .before .if1 .left) in
+    (called .pre .0, fit-length (called .args .rest .now) (found .part-before .result .now) fit)
 
 returns-3 : tie.Need-returns-3
 returns-3 c =
-    let a = c .before .before .before .before .before .before .before .before .before .before .before .before .before .before .before .args in
-    comes-do (a .text .now) (a .q) (a .n) (a .rest .now) (c .before .before .before .before .before .before .before .before .before .before .before .before .part-before .result .now) (c .before .before .before .before .before .before .before .before .before .before .before .before .part-before .ensures) (c .do-line .result)
-    (sym (c .before .before .before .before .before .before .before .before .before .before .before .is-fit .ensures) ∙ not-false _ (c .before .before .before .before .before .before .before .before .before .before .if1 .left)) (c .before .before .before .before .before .before .before .before .before .field-of .result .now) (c .before .before .before .before .before .before .before .before .before .field-of .ensures)
-    (sym (c .before .before .before .before .before .before .before .is-same .ensures) ∙ c .before .before .before .before .before .before .if2 .left) (sym (c .before .before .before .before .is-same2 .ensures) ∙ c .before .before .before .if3 .taken) (c .do-line .ensures)
+    let does = c .before .before .before in
+    let reg = does .before .before .before in
+    let worded = reg .before .before .before in
+    let found = worded .before .before .before in
+    let called = found .before .before .before in
+    let a = called .args in
+    let fit = sym (worded .before .before .is-fit .ensures) ∙ not-false _ (worded .before .if1 .left) in
+    comes-do (a .text .now) (a .q) (a .n) (a .rest .now) (found .part-before .result .now) (found .part-before .ensures) (c .do-line .result) _ _ _ _
+    fit (worded .field-of .result .now) (worded .field-of .ensures)
+    (sym (reg .before .is-same .ensures) ∙ reg .if2 .left) (sym (does .before .is-same2 .ensures) ∙ does .if3 .taken) (c .do-line .ensures)
 
 slice-aggregate-is-same-3 : tie.Need-slice-aggregate-is-same-3
 slice-aggregate-is-same-3 c = search needs
@@ -85,15 +109,28 @@ part-after-requires c κs = search needs
 
 go-line-requires : tie.Need-go-line-requires
 go-line-requires c κs =
-    let p = c .before .before .before .before .before .before .before .before .before .before .before .before .before .before .before .before .before .before .pre in
-    (p .0, (fit-length (c .before .before .before .before .before .before .before .before .before .before .before .before .before .before .before .before .before .before .args .rest .now) (c .before .before .before .before .before .before .before .before .before .before .before .before .before .before .before .part-before .result .now) (sym (c .before .before .before .before .before .before .before .before .before .before .before .before .before .before .is-fit .ensures) ∙ not-false _ (c .before .before .before .before .before .before .before .before .before .before .before .before .before .if1 .left)), omega (arith, p .1 .0, p .1 .1 .fits, ap length (c .before .before .part-after .ensures), after-le lineFeed (c .before .before .before .before .before .before .before .before .before .before .before .before .before .before .before .before .before .before .args .rest .now))))
+    let worded = c .before .before .before .before .before .before .before .before .before .before .before .before in
+    let found = worded .before .before .before in
+    let called = found .before .before .before in
+    let h = called .pre in
+    let rest = called .args .rest .now in
+    let fit = sym (worded .before .before .is-fit .ensures) ∙ not-false _ (worded .before .if1 .left) in
+    let short = fit-length rest (found .part-before .result .now) fit in
+    (h .0, (short, omega (arith, h .1 .0, h .1 .1 .fits, ap length (c .before .before .part-after .ensures), after-le lineFeed rest)))
 
 returns-4 : tie.Need-returns-4
 returns-4 c =
-    let a = c .before .before .before .before .before .before .before .before .before .before .before .before .before .before .before .before .before .before .before .args in
-    comes-go (a .text .now) (a .q) (a .n) (a .rest .now) (c .before .before .before .before .before .before .before .before .before .before .before .before .before .before .before .before .part-before .result .now) (c .before .before .before .before .before .before .before .before .before .before .before .before .before .before .before .before .part-before .ensures) (c .go-line .result)
-    (sym (c .before .before .before .before .before .before .before .before .before .before .before .before .before .before .before .is-fit .ensures) ∙ not-false _ (c .before .before .before .before .before .before .before .before .before .before .before .before .before .before .if1 .left)) (c .before .before .before .before .before .before .before .before .before .before .before .before .before .field-of .result .now) (c .before .before .before .before .before .before .before .before .before .before .before .before .before .field-of .ensures)
-    (sym (c .before .before .before .before .before .before .before .before .before .before .before .is-same .ensures) ∙ c .before .before .before .before .before .before .before .before .before .before .if2 .left) (sym (c .before .before .before .before .before .before .before .before .is-same2 .ensures) ∙ c .before .before .before .before .before .before .before .if3 .left) (sym (c .before .before .before .before .before .is-same3 .ensures) ∙ c .before .before .before .before .if4 .taken)
+    let go = c .before .before .before .before in
+    let does = go .before .before .before in
+    let reg = does .before .before .before in
+    let worded = reg .before .before .before in
+    let found = worded .before .before .before in
+    let called = found .before .before .before in
+    let a = called .args in
+    let fit = sym (worded .before .before .is-fit .ensures) ∙ not-false _ (worded .before .if1 .left) in
+    comes-go (a .text .now) (a .q) (a .n) (a .rest .now) (found .part-before .result .now) (found .part-before .ensures) (c .go-line .result) _ _ _ _
+    fit (worded .field-of .result .now) (worded .field-of .ensures)
+    (sym (reg .before .is-same .ensures) ∙ reg .if2 .left) (sym (does .before .is-same2 .ensures) ∙ does .if3 .left) (sym (go .before .is-same3 .ensures) ∙ go .if4 .taken)
     (c .before .before .before .part-after .result .now) (c .before .before .before .part-after .ensures) (c .go-line .ensures)
 
 slice-aggregate-is-same-4 : tie.Need-slice-aggregate-is-same-4
@@ -108,28 +145,50 @@ sub-at-line c =
 
 at-line-requires : tie.Need-at-line-requires
 at-line-requires c κs =
-    let a = c .before .before .before .before .before .before .before .before .before .before .before .before .before .before .before .before .before .before .args in
-    let p = c .before .before .before .before .before .before .before .before .before .before .before .before .before .before .before .before .before .before .pre in
-    (p .0, (line-stands (a .text .now) (a .rest .now) _ (p .1 .1) (c .before .before .before .before .before .before .before .before .before .before .before .before .before .before .before .part-before .ensures), (line-fits (a .text .now) (a .rest .now) _ (p .1 .1) (p .1 .0) (c .before .before .before .before .before .before .before .before .before .before .before .before .before .before .before .part-before .ensures), ap (λ (l : List ℕ). same l atWord) (sym (c .before .before .before .before .before .before .before .before .before .before .before .before .field-of .ensures)) ∙ sym (c .before .is-same4 .ensures) ∙ c .if5 .taken)))
+    let worded = c .before .before .before .before .before .before .before .before .before .before .before .before in
+    let found = worded .before .before .before in
+    let called = found .before .before .before in
+    let a = called .args in
+    let h = called .pre in
+    let stands = line-stands (a .text .now) (a .rest .now) _ (h .1 .1) (found .part-before .ensures) in
+    let fits = line-fits (a .text .now) (a .rest .now) _ (h .1 .1) (h .1 .0) (found .part-before .ensures) in
+    let word = ap (λ (l : List ℕ). same l atWord) (sym (worded .field-of .ensures)) ∙ sym (c .before .is-same4 .ensures) ∙ c .if5 .taken in
+    (h .0, (stands, (fits, word)))
 
 returns-5 : tie.Need-returns-5
 returns-5 c =
-    let a = c .before .before .before .before .before .before .before .before .before .before .before .before .before .before .before .before .before .before .before .args in
-    comes-at (a .text .now) (a .q) (a .n) (a .rest .now) (c .before .before .before .before .before .before .before .before .before .before .before .before .before .before .before .before .part-before .result .now) (c .before .before .before .before .before .before .before .before .before .before .before .before .before .before .before .before .part-before .ensures) (c .at-line .result)
-    (sym (c .before .before .before .before .before .before .before .before .before .before .before .before .before .before .before .is-fit .ensures) ∙ not-false _ (c .before .before .before .before .before .before .before .before .before .before .before .before .before .before .if1 .left)) (c .before .before .before .before .before .before .before .before .before .before .before .before .before .field-of .result .now) (c .before .before .before .before .before .before .before .before .before .before .before .before .before .field-of .ensures)
-    (sym (c .before .before .before .before .before .before .before .before .before .before .before .is-same .ensures) ∙ c .before .before .before .before .before .before .before .before .before .before .if2 .left) (sym (c .before .before .before .before .before .before .before .before .is-same2 .ensures) ∙ c .before .before .before .before .before .before .before .if3 .left) (sym (c .before .before .before .before .before .is-same3 .ensures) ∙ c .before .before .before .before .if4 .left)
-    (sym (c .before .before .is-same4 .ensures) ∙ c .before .if5 .taken) (takes-plain _ _ (a .q) _ (c .at-line .ensures))
+    let at = c .before in
+    let go = at .before .before .before in
+    let does = go .before .before .before in
+    let reg = does .before .before .before in
+    let worded = reg .before .before .before in
+    let found = worded .before .before .before in
+    let called = found .before .before .before in
+    let a = called .args in
+    let fit = sym (worded .before .before .is-fit .ensures) ∙ not-false _ (worded .before .if1 .left) in
+    comes-at (a .text .now) (a .q) (a .n) (a .rest .now) (found .part-before .result .now) (found .part-before .ensures) (c .at-line .result) _ _ _ _
+    fit (worded .field-of .result .now) (worded .field-of .ensures)
+    (sym (reg .before .is-same .ensures) ∙ reg .if2 .left) (sym (does .before .is-same2 .ensures) ∙ does .if3 .left) (sym (go .before .is-same3 .ensures) ∙ go .if4 .left)
+    (sym (at .before .is-same4 .ensures) ∙ at .if5 .taken) (takes-plain _ _ (a .q) _ (c .at-line .ensures))
 
 refused-requires-2 : tie.Need-refused-requires-2
 refused-requires-2 c κs = search needs
 
 returns-6 : tie.Need-returns-6
 returns-6 c =
-    let a = c .before .before .before .before .before .before .before .before .before .before .before .before .before .before .before .before .before .before .before .args in
-    comes-unknown (a .text .now) (a .q) (a .n) (a .rest .now) (c .before .before .before .before .before .before .before .before .before .before .before .before .before .before .before .before .part-before .result .now) (c .before .before .before .before .before .before .before .before .before .before .before .before .before .before .before .before .part-before .ensures) (c .refused2 .result)
-    (sym (c .before .before .before .before .before .before .before .before .before .before .before .before .before .before .before .is-fit .ensures) ∙ not-false _ (c .before .before .before .before .before .before .before .before .before .before .before .before .before .before .if1 .left)) (c .before .before .before .before .before .before .before .before .before .before .before .before .before .field-of .result .now) (c .before .before .before .before .before .before .before .before .before .before .before .before .before .field-of .ensures)
-    (sym (c .before .before .before .before .before .before .before .before .before .before .before .is-same .ensures) ∙ c .before .before .before .before .before .before .before .before .before .before .if2 .left) (sym (c .before .before .before .before .before .before .before .before .is-same2 .ensures) ∙ c .before .before .before .before .before .before .before .if3 .left) (sym (c .before .before .before .before .before .is-same3 .ensures) ∙ c .before .before .before .before .if4 .left)
-    (sym (c .before .before .is-same4 .ensures) ∙ c .before .if5 .left) (c .refused2 .ensures) (c .before .before .before .before .before .before .before .before .before .before .before .before .before .before .before .before .before .before .before .pre .0)
+    let at = c .before in
+    let go = at .before .before .before in
+    let does = go .before .before .before in
+    let reg = does .before .before .before in
+    let worded = reg .before .before .before in
+    let found = worded .before .before .before in
+    let called = found .before .before .before in
+    let a = called .args in
+    let fit = sym (worded .before .before .is-fit .ensures) ∙ not-false _ (worded .before .if1 .left) in
+    comes-unknown (a .text .now) (a .q) (a .n) (a .rest .now) (found .part-before .result .now) (found .part-before .ensures) (c .refused2 .result) _ _ _ _
+    fit (worded .field-of .result .now) (worded .field-of .ensures)
+    (sym (reg .before .is-same .ensures) ∙ reg .if2 .left) (sym (does .before .is-same2 .ensures) ∙ does .if3 .left) (sym (go .before .is-same3 .ensures) ∙ go .if4 .left)
+    (sym (at .before .is-same4 .ensures) ∙ at .if5 .left) (c .refused2 .ensures) (called .pre .0)
 
 pub read-line-spec : {M : Type 1} → statement M
 read-line-spec =

@@ -17,6 +17,25 @@ use Rattle.bit_parts.specs.References.{referenceAt}
 use Rattle.code.specs.Tree.{Expr}
 use Rattle.code.specs.Readings.{Reading, read, outside, ofReference, ofConstant, notOf, closed, turned, joined}
 
+-- the bytes `(`, `)`, `[` and `]`, and the tokens `Not` and `M`
+abbrev pub roundOpen : ℕ
+roundOpen = 40
+
+abbrev pub roundClose : ℕ
+roundClose = 41
+
+abbrev pub squareOpen : ℕ
+squareOpen = 91
+
+abbrev pub squareClose : ℕ
+squareClose = 93
+
+abbrev pub notToken : List ℕ
+notToken = 78 ∷ 111 ∷ 116 ∷ []
+
+abbrev pub memoryToken : List ℕ
+memoryToken = 77 ∷ []
+
 -- "Open brackets, parentheses and Nots nest to 8"
 abbrev pub deepest : ℕ
 deepest = 8
@@ -53,8 +72,8 @@ unfoldable mutual
   pub operand : ℕ → List Named → List ℕ → ℕ → ℕ → Reading
   operand zero rs s d at = outside
   operand (suc f) rs s d at =
-      elim (eqb (next s at) 40) [
-        | true ↦ enclosed f rs s d 41 (skip s at + 1)
+      elim (eqb (next s at) roundOpen) [
+        | true ↦ enclosed f rs s d roundClose (skip s at + 1)
         | false ↦
             elim (isLetter (next s at)) [ true ↦ worded f rs s d (skip s at) | false ↦ ofConstant (constantAt s (skip s at)) ]
       ]
@@ -62,13 +81,13 @@ unfoldable mutual
   pub worded : ℕ → List Named → List ℕ → ℕ → ℕ → Reading
   worded zero rs s d at = outside
   worded (suc f) rs s d at =
-      elim (same (slice s at (runEnd Word s at)) (78 ∷ 111 ∷ 116 ∷ [])) [
+      elim (same (slice s at (runEnd Word s at)) notToken) [
         | true ↦ negated f rs s d (runEnd Word s at)
         | false ↦
-            elim (same (slice s at (runEnd Word s at)) (77 ∷ [])) [
+            elim (same (slice s at (runEnd Word s at)) memoryToken) [
               | true ↦
-                  elim (eqb (next s (runEnd Word s at)) 91) [
-                    | true ↦ enclosed f rs s d 93 (skip s (runEnd Word s at) + 1)
+                  elim (eqb (next s (runEnd Word s at)) squareOpen) [
+                    | true ↦ enclosed f rs s d squareClose (skip s (runEnd Word s at) + 1)
                     | false ↦ outside
                   ]
               | false ↦ ofReference (referenceAt rs s at)

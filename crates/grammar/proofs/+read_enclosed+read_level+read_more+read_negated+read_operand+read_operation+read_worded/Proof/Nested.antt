@@ -1,17 +1,16 @@
 -- The functions that go deeper: what a Not stands before, and a bracketed part.
 -- Assumes nothing.
-use mathlib.Core.Path.{ap}
+use mathlib.Core.Path.{refl, ap}
 use Prim.Native.Nat.{ℕ, _+_}
 use native.Mathlib.Omega.{arith}
 use borrow.Author.Needs.{needs}
-use borrow.Author.Tests.{lt-ltb, le-ltb}
 use Rattle.names.specs.Names.{entries}
 use Rattle.operators.specs.declared.Entry.{Entry}
 use Rattle.operators.specs.Operators.{strongest, weakest}
-use Rattle.grammar.specs.Grammar.{level, operand, negated, enclosed, deepest}
+use Rattle.grammar.specs.Grammar.{level}
 use Rattle.code.specs.Readings.{notOf, closed, outside}
 use Rattle.grammar.specs.Met.{calls}
-use Rattle.grammar.proofs.Calls.{step, regrown, negated-in, negated-deep, enclosed-in, enclosed-deep, not-fault, closed-fault}
+use Rattle.grammar.proofs.Calls.{answered, regrown, still-fault, negated-in, negated-deep, enclosed-in, enclosed-deep}
 use borrow.Fn.PlainCycle.{is}
 use Rattle.grammar.proofs.read_enclosed.Reads as read-enclosed
 use Rattle.grammar.proofs.+read_enclosed+read_level+read_more+read_negated+read_operand+read_operation+read_worded.Lts-read_enclosed as read-enclosed-lts
@@ -43,8 +42,8 @@ read-negated-enum-known-operand t c =
 
 pub read-negated-complemented-part-requires : (t : ℕ) → read-negated-lts.Need-complemented-part-requires (read-negated-claims t) (read-negated-at t) read-negated.Post
 read-negated-complemented-part-requires t c κs =
-    let g = rw (c .before .before .operand .given .1) at (c .before .before .before .before .read-level .ensures .grown) in
-    omega (arith, c .before .before .before .before .before .before .before .before .before .before .pre, g)
+    let growth = rw (c .before .before .operand .given .1) at (c .before .before .before .before .read-level .ensures .grown) in
+    omega (arith, c .before .before .before .before .before .before .before .before .before .before .pre, growth)
 
 pub read-negated-enum-told : (t : ℕ) → read-negated-lts.Need-enum-told (read-negated-claims t) (read-negated-at t) read-negated.Post
 read-negated-enum-told t c =
@@ -52,48 +51,36 @@ read-negated-enum-told t c =
 
 pub read-negated-returns : (t : ℕ) → read-negated-lts.Need-returns (read-negated-claims t) (read-negated-at t) read-negated.Post
 read-negated-returns t c =
-    let a = c .before .before .before .before .before .before .before .before .before .before .before .args in
+    let tested = c .before .before .before .before .before .before .before .before in
+    let a = tested .before .before .before .args in
     let s = a .s .now in
     let rs = entries (a .text .now) (a .d) in
     let d = a .depth in
     let p = a .c .place in
-    let x = rw (c .before .before .before .operand .given .1, c .before .before .before .before .before .before .before .entry-in .ensures) at (c .before .before .before .before .before .read-level .ensures) in
-    let y = x .grown in
-    record {
-      meets = λ f l. step (calls s p 2) (λ g. negated g rs s d p) (λ g. notOf (level g rs s (d + 1) strongest p)) _ _ _ _
-          (negated-in rs s d p (lt-ltb d deepest (c .before .before .before .before .before .before .before .before .if1 .taken)))
-          (λ g b. c .complemented-part .ensures .meets (level g rs s (d + 1) strongest p) _ _ (x .meets g b))
-          f (omega arith);
-      grown = rw (c .complemented-part .ensures .is) (omega (arith, y));
-    }
+    let answer = rw (c .before .before .before .operand .given .1, c .before .before .before .before .before .before .before .entry-in .ensures) at (c .before .before .before .before .before .read-level .ensures) in
+    let growth = answer .grown in
+    answered (calls s p 2) (λ g. notOf (level g rs s (d + 1) strongest p)) (omega arith) (negated-in rs s d p (tested .if1 .taken))
+    (λ g b. c .complemented-part .ensures .meets (level g rs s (d + 1) strongest p) _ _ (answer .meets g b))
+    (rw (c .complemented-part .ensures .is) (omega (arith, growth)))
 
 pub read-negated-returns-2 : (t : ℕ) → read-negated-lts.Need-returns-2 (read-negated-claims t) (read-negated-at t) read-negated.Post
+unfolding notOf
 read-negated-returns-2 t c =
-    let a = c .before .before .before .before .before .before .before .before .args in
+    let tested = c .before .before .before .before .before in
+    let a = tested .before .before .before .args in
     let s = a .s .now in
     let rs = entries (a .text .now) (a .d) in
     let d = a .depth in
     let p = a .c .place in
-    let x = rw (c .enum-told .given .1, c .before .before .before .before .entry-in .ensures) at (c .before .before .read-level .ensures) in
-    record {
-      meets = λ f l. step (calls s p 2) (λ g. negated g rs s d p) (λ g. notOf (level g rs s (d + 1) strongest p)) _ _ _ _
-          (negated-in rs s d p (lt-ltb d deepest (c .before .before .before .before .before .if1 .taken)))
-          (λ g b. not-fault (level g rs s (d + 1) strongest p) _ _ _ _ (x .meets g b))
-          f (omega arith);
-      grown = tt;
-    }
+    let answer = rw (c .enum-told .given .1, c .before .before .before .before .entry-in .ensures) at (c .before .before .read-level .ensures) in
+    answered (calls s p 2) (λ g. notOf (level g rs s (d + 1) strongest p)) (omega arith) (negated-in rs s d p (tested .if1 .taken))
+    (λ g b. still-fault notOf (level g rs s (d + 1) strongest p) _ _ _ _ _ _ refl (answer .meets g b))
+    tt
 
 pub read-negated-returns-3 : (t : ℕ) → read-negated-lts.Need-returns-3 (read-negated-claims t) (read-negated-at t) read-negated.Post
 read-negated-returns-3 t c =
     let a = c .before .before .before .args in
-    let s = a .s .now in
-    let rs = entries (a .text .now) (a .d) in
-    let d = a .depth in
-    let p = a .c .place in
-    record {
-      meets = λ f l. step 0 (λ g. negated g rs s d p) (λ g. outside) _ _ _ _ (negated-deep rs s d p (le-ltb d deepest (c .if1 .left))) (λ g b. tt) f (omega arith);
-      grown = tt;
-    }
+    answered 0 (λ g. outside) (omega arith) (negated-deep (entries (a .text .now) (a .d)) (a .s .now) (a .depth) (a .c .place) (c .if1 .left)) (λ g b. tt) tt
 
 abbrev pub read-enclosed-claims : ℕ → read-enclosed-lts.Claims
 read-enclosed-claims t = (read-level-below t, read-level.Post, closed-part-reads.Asked, closed-part-reads.Learnt)
@@ -112,8 +99,8 @@ read-enclosed-enum-known-inner t c =
 
 pub read-enclosed-closed-part-requires : (t : ℕ) → read-enclosed-lts.Need-closed-part-requires (read-enclosed-claims t) (read-enclosed-at t) read-enclosed.Post
 read-enclosed-closed-part-requires t c κs =
-    let g = rw (c .before .before .inner .given .1) at (c .before .before .before .before .read-level .ensures .grown) in
-    omega (arith, c .before .before .before .before .before .before .before .before .before .pre, g)
+    let growth = rw (c .before .before .inner .given .1) at (c .before .before .before .before .read-level .ensures .grown) in
+    omega (arith, c .before .before .before .before .before .before .before .before .before .pre, growth)
 
 pub read-enclosed-enum-told : (t : ℕ) → read-enclosed-lts.Need-enum-told (read-enclosed-claims t) (read-enclosed-at t) read-enclosed.Post
 read-enclosed-enum-told t c =
@@ -121,45 +108,33 @@ read-enclosed-enum-told t c =
 
 pub read-enclosed-returns : (t : ℕ) → read-enclosed-lts.Need-returns (read-enclosed-claims t) (read-enclosed-at t) read-enclosed.Post
 read-enclosed-returns t c =
-    let a = c .before .before .before .before .before .before .before .before .before .before .args in
+    let tested = c .before .before .before .before .before .before .before in
+    let a = tested .before .before .before .args in
     let s = a .s .now in
     let rs = entries (a .text .now) (a .d) in
     let d = a .depth in
     let p = a .c .place in
-    let x = rw (c .before .before .before .inner .given .1) at (c .before .before .before .before .before .read-level .ensures) in
-    let y = x .grown in
-    record {
-      meets = λ f l. step (calls s p 8) (λ g. enclosed g rs s d (a .close) p) (λ g. closed s (a .close) (level g rs s (d + 1) weakest p)) _ _ _ _
-          (enclosed-in rs s d p (a .close) (lt-ltb d deepest (c .before .before .before .before .before .before .before .if1 .taken)))
-          (λ g b. c .closed-part .ensures .meets (level g rs s (d + 1) weakest p) _ _ (x .meets g b))
-          f (omega arith);
-      grown = regrown s (c .closed-part .result) (c .before .before .before .inner .given .0 .0 .place + 1) (c .before .before .before .inner .given .0 .0 .words + 1) (c .before .before .before .inner .given .0 .0 .pieces + 1) (p + 1) (a .c .words + 2) (a .c .pieces + 2) (c .closed-part .ensures .grown) (omega (arith, y)) (omega (arith, y)) (omega (arith, y));
-    }
+    let answer = rw (c .before .before .before .inner .given .1) at (c .before .before .before .before .before .read-level .ensures) in
+    let growth = answer .grown in
+    answered (calls s p 8) (λ g. closed s (a .close) (level g rs s (d + 1) weakest p)) (omega arith) (enclosed-in rs s d p (a .close) (tested .if1 .taken))
+    (λ g b. c .closed-part .ensures .meets (level g rs s (d + 1) weakest p) _ _ (answer .meets g b))
+    (regrown s (c .closed-part .result) _ _ _ _ _ _ (c .closed-part .ensures .grown) (omega (arith, growth)) (omega (arith, growth)) (omega (arith, growth)))
 
 pub read-enclosed-returns-2 : (t : ℕ) → read-enclosed-lts.Need-returns-2 (read-enclosed-claims t) (read-enclosed-at t) read-enclosed.Post
+unfolding closed
 read-enclosed-returns-2 t c =
-    let a = c .before .before .before .before .before .before .before .args in
+    let tested = c .before .before .before .before in
+    let a = tested .before .before .before .args in
     let s = a .s .now in
     let rs = entries (a .text .now) (a .d) in
     let d = a .depth in
     let p = a .c .place in
-    let x = rw (c .enum-told .given .1) at (c .before .before .read-level .ensures) in
-    record {
-      meets = λ f l. step (calls s p 8) (λ g. enclosed g rs s d (a .close) p) (λ g. closed s (a .close) (level g rs s (d + 1) weakest p)) _ _ _ _
-          (enclosed-in rs s d p (a .close) (lt-ltb d deepest (c .before .before .before .before .if1 .taken)))
-          (λ g b. closed-fault s (a .close) (level g rs s (d + 1) weakest p) _ _ _ _ (x .meets g b))
-          f (omega arith);
-      grown = tt;
-    }
+    let answer = rw (c .enum-told .given .1) at (c .before .before .read-level .ensures) in
+    answered (calls s p 8) (λ g. closed s (a .close) (level g rs s (d + 1) weakest p)) (omega arith) (enclosed-in rs s d p (a .close) (tested .if1 .taken))
+    (λ g b. still-fault (closed s (a .close)) (level g rs s (d + 1) weakest p) _ _ _ _ _ _ refl (answer .meets g b))
+    tt
 
 pub read-enclosed-returns-3 : (t : ℕ) → read-enclosed-lts.Need-returns-3 (read-enclosed-claims t) (read-enclosed-at t) read-enclosed.Post
 read-enclosed-returns-3 t c =
     let a = c .before .before .before .args in
-    let s = a .s .now in
-    let rs = entries (a .text .now) (a .d) in
-    let d = a .depth in
-    let p = a .c .place in
-    record {
-      meets = λ f l. step 0 (λ g. enclosed g rs s d (a .close) p) (λ g. outside) _ _ _ _ (enclosed-deep rs s d p (a .close) (le-ltb d deepest (c .if1 .left))) (λ g b. tt) f (omega arith);
-      grown = tt;
-    }
+    answered 0 (λ g. outside) (omega arith) (enclosed-deep (entries (a .text .now) (a .d)) (a .s .now) (a .depth) (a .c .place) (a .close) (c .if1 .left)) (λ g b. tt) tt

@@ -2,17 +2,20 @@
 -- Assumes nothing.
 use mathlib.Core.Path.{_≡_, refl, sym, ap, _∙_}
 use mathlib.Core.Bool.{Bool, true, false, _&&_}
-use mathlib.Core.List.{List, [], _∷_}
+use mathlib.Core.List.{List}
 use Prim.Native.Nat.{ℕ, _+_}
+use native.Mathlib.Nat.{sub-zero}
 use lib.Dec.{eqb, leb}
-use lib.ListN.{length, getD}
+use lib.ListN.{length, getD, take, drop}
 use borrow.Author.Tests.{eq-eqb, ne-eqb}
 use Rattle.characters.specs.Characters.{runEnd, same}
 use Rattle.names.specs.Names.{Named}
 use Rattle.characters.specs.declared.Class.the-variants as class
+use Rattle.bit_parts.specs.declared.Reference.{Reference}
 use Rattle.bit_parts.specs.declared.Reference.the-variants.{Whole, Part}
 use Rattle.operators.specs.Operators.{weakest}
 use Rattle.tokens.specs.Tokens.{skip, next, slice}
+use Rattle.tokens.proofs.Tokens.{at-mark, off-mark}
 use Rattle.bit_parts.specs.References.{referenceAt}
 use Rattle.code.specs.declared.Cursor.{Cursor}
 use Rattle.code.specs.declared.Part.the-variants.{Fault}
@@ -20,7 +23,7 @@ use Rattle.expression.specs.declared.Place.{Place}
 use Rattle.expression.specs.declared.Place.the-variants.{Register, Bits, Word, Nowhere}
 use Rattle.code.specs.Tree.{Expr, pieces, mostPieces, Destination, toRegister, toPart, toMemory, nowhere}
 use Rattle.code.specs.Readings.{Reading, read, outside}
-use Rattle.grammar.specs.Grammar.{level, fuel}
+use Rattle.grammar.specs.Grammar.{squareOpen, squareClose, memoryToken, level, fuel}
 use Rattle.expression.specs.Expression.{trimmed, ofName, ofAddress, memoryAt, destination}
 use Rattle.code.specs.Met.{Held, Meets}
 use Rattle.expression.specs.Met.{Aims, Points, Addressed}
@@ -48,7 +51,7 @@ module _ (s : List ℕ) (r w p : ℕ) where
 -- an address
 module _ (s : List ℕ) (t : Expr) (p : ℕ) where
   abbrev shut : Bool
-  shut = eqb (next s p) 93 && eqb (skip s p + 1) (length s) && leb (pieces t) mostPieces
+  shut = eqb (next s p) squareClose && eqb (skip s p + 1) (length s) && leb (pieces t) mostPieces
 
   is-address : shut ≡ true → ofAddress s (read t p) ≡ toMemory t
   unfolding ofAddress
@@ -60,17 +63,17 @@ module _ (s : List ℕ) (t : Expr) (p : ℕ) where
 
 module _ (s : List ℕ) (c from : Cursor) where
   abbrev ends : ℕ → Bool
-  ends q = eqb (next s q) 93 && eqb (skip s q + 1) (length s) && leb (c .pieces) (from .pieces + 32)
+  ends q = eqb (next s q) squareClose && eqb (skip s q + 1) (length s) && leb (c .pieces) (from .pieces + mostPieces)
 
   -- the definition's test is the code's
   same-test : (t : Expr) (p w : ℕ) (before after : List ℕ) → Held t p c w from before after → shut s t p ≡ ends (c .place)
   same-test t p w before after h =
-      ap (λ (b : Bool). eqb (next s p) 93 && eqb (skip s p + 1) (length s) && b) (few-pieces (from .pieces) (pieces t) (c .pieces) (h .pieces-are))
+      ap (λ (b : Bool). eqb (next s p) squareClose && eqb (skip s p + 1) (length s) && b) (few-pieces (from .pieces) (pieces t) (c .pieces) (h .pieces-are))
       ∙ ap ends (sym (h .place-is))
 
   -- the code's test, by the place and the byte that it finds
   pub as-found : (q x : ℕ) → q ≡ skip s (c .place) → x ≡ getD s q 0
-      → ends (c .place) ≡ eqb x 93 && eqb (q + 1) (length s) && leb (c .pieces) (from .pieces + 32)
+      → ends (c .place) ≡ eqb x squareClose && eqb (q + 1) (length s) && leb (c .pieces) (from .pieces + mostPieces)
   as-found q x e f = rw (f, e)
 
   pub addressed : ends (c .place) ≡ true → Addressed s c (Word c) from
@@ -90,6 +93,7 @@ module _ (s : List ℕ) (c from : Cursor) where
   unaddressed u (read t p) w before after few less h = no-address s t p (same-test t p w before after h ∙ u)
   unaddressed u outside w before after few less h = absurd h
 
+-- an address that has a fault
 pub address-fault : (s : List ℕ) (x : Reading) (from : Cursor) (before after : List ℕ) → Meets x Fault from before after → ofAddress s x ≡ nowhere
 unfolding ofAddress
 address-fault s x from before after m = ap (ofAddress s) (faulty x from before after m)
@@ -102,6 +106,7 @@ aimed (Word c) x y s from q before after e m =
     record { tree = m .tree; is = e ∙ m .is; pieces-are = m .pieces-are; words-are = m .words-are; code-is = m .code-is; words-few = m .words-few; pieces-few = m .pieces-few }
 aimed Nowhere x y s from q before after e m = e ∙ m
 
+-- the destination that a name is, which leaves the table as it was
 pub pointed : (r : Place) (x y : Destination) (s : List ℕ) (from : Cursor) (before : List ℕ) → x ≡ y → Points r y → Aims r x s from before before
 pointed (Register r w) x y s from before e m = (e ∙ m, refl)
 pointed (Bits r w a b) x y s from before e m = (e ∙ m, refl)
@@ -109,21 +114,29 @@ pointed (Word c) x y s from before e m = absurd m
 pointed Nowhere x y s from before e m = e ∙ m
 
 module _ (rs : List Named) (s : List ℕ) where
-  pub opens : (end : ℕ) → eqb (next s end) 91 ≡ true → memoryAt rs s end ≡ ofAddress s (level (fuel s) rs s 0 weakest (skip s end + 1))
-  unfolding memoryAt
-  opens end t = rw (t, memoryAt)
+  -- behind an M, by the place where the next token starts and the byte there
+  module _ (end start x : ℕ) (starts : start ≡ skip s end) (here : x ≡ getD s start 0) where
+    pub opens : x ≡ squareOpen → memoryAt rs s end ≡ ofAddress s (level (fuel s) rs s 0 weakest (start + 1))
+    unfolding memoryAt
+    opens h = rw (starts, at-mark s end start x squareOpen starts here h, memoryAt)
 
-  pub bare : (end : ℕ) → eqb (next s end) 91 ≡ false → memoryAt rs s end ≡ nowhere
-  unfolding memoryAt
-  bare end t = rw (t, memoryAt)
+    pub bare : (x ≡ squareOpen → ⊥) → memoryAt rs s end ≡ nowhere
+    unfolding memoryAt
+    bare h = rw (off-mark s end start x squareOpen starts here h, memoryAt)
 
-  pub to-memory : trimmed s ≡ true → same (slice s 0 (runEnd class.Word s 0)) (77 ∷ []) ≡ true → destination rs s ≡ memoryAt rs s (runEnd class.Word s 0)
-  unfolding destination
-  to-memory t u = rw (t, u, destination)
+  -- a field, by its first token and the place after it
+  module _ (trims : trimmed s ≡ true) (end : ℕ) (token : List ℕ) (ends : end ≡ runEnd class.Word s 0) (is : token ≡ take end (drop 0 s)) where
+    token-is : (b : Bool) → same token memoryToken ≡ b → same (slice s 0 (runEnd class.Word s 0)) memoryToken ≡ b
+    token-is b h =
+        ap (λ (z : List ℕ). same z memoryToken) (ap (λ (k : ℕ). take k (drop 0 s)) (sub-zero (runEnd class.Word s 0) ∙ sym ends) ∙ sym is) ∙ h
 
-  pub to-name : trimmed s ≡ true → same (slice s 0 (runEnd class.Word s 0)) (77 ∷ []) ≡ false → destination rs s ≡ ofName s (referenceAt rs s 0)
-  unfolding destination
-  to-name t u = rw (t, u, destination)
+    pub to-memory : same token memoryToken ≡ true → destination rs s ≡ memoryAt rs s end
+    unfolding destination
+    to-memory h = rw (ends, trims, token-is true h, destination)
+
+    pub to-name : same token memoryToken ≡ false → (x : Reference) → x ≡ referenceAt rs s 0 → destination rs s ≡ ofName s x
+    unfolding destination
+    to-name h x i = rw (i, trims, token-is false h, destination)
 
   pub not-trimmed : trimmed s ≡ false → destination rs s ≡ nowhere
   unfolding destination

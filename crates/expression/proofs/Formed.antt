@@ -2,11 +2,11 @@
 -- Assumes nothing.
 use mathlib.Core.Path.{_≡_, refl, sym, ap, subst, _∙_}
 use mathlib.Core.Bool.{true, false, _&&_}
-use mathlib.Core.List.{List, [], _∷_}
+use mathlib.Core.List.{List}
 use Prim.Native.Nat.{ℕ, zero, suc, _+_, _≤_, _<_}
 use native.Mathlib.Omega.{arith}
 use lib.Dec.{eqb, leb, ltb}
-use lib.ListN.{length}
+use lib.ListN.{length, List·getD-eq-default}
 use borrow.Author.Tests.{ltb-true, ltb-false, leb-true, eqb-true, ne-eqb}
 use Rattle.word.specs.Word.{widest}
 use Rattle.characters.specs.Characters.{isLetter, runEnd, same}
@@ -29,7 +29,7 @@ use Rattle.bit_parts.specs.References.{referenceAt}
 use Rattle.bit_parts.proofs.Onward.{whole-known, bits-known}
 use Rattle.code.specs.Tree.{Expr, register, bitPart, constant, binary, width, pieces, mostPieces, toPart}
 use Rattle.code.specs.Readings.{Reading, read, outside, limited, ofReference, ofConstant, notOf, closed, largestCount, turned, joined}
-use Rattle.grammar.specs.Grammar.{deepest, level, more, operation, operand, worded, negated, enclosed, fuel}
+use Rattle.grammar.specs.Grammar.{roundOpen, roundClose, squareOpen, squareClose, notToken, memoryToken, deepest, level, more, operation, operand, worded, negated, enclosed, fuel}
 use Rattle.expression.specs.Expression.{trimmed, whole, expression, ofName, ofAddress, memoryAt, destination}
 use Rattle.code.specs.Formed.{isOf, Formed, Accepted, Reads, FormedDestination}
 use Rattle.code.proofs.Parts.{row-is}
@@ -38,12 +38,12 @@ use Rattle.code.proofs.Formed.{formed-narrow}
 -- a row's operator is of that row's strength; past the table stands Or, the weakest
 strength-is : (row k : ℕ) → weakest < k → isOf k (entryIn row .operator) ≡ eqb (entryIn row .strength) k
 strength-is row k h =
-    by-test (ltb row 10)
-    (λ t. ap (λ (i : ℕ). eqb (entryIn i .strength) k) (row-is row (ltb-true row 10 t)))
+    by-test (ltb row (length table))
+    (λ t. ap (λ (i : ℕ). eqb (entryIn i .strength) k) (row-is row (ltb-true row (length table) t)))
     (λ t. ap (λ (e : Entry). eqb (entryIn (rowOf (e .operator)) .strength) k) (none t) ∙ weaker ∙ ap (λ (e : Entry). eqb (e .strength) k) (sym (none t)))
   where
-    none : ltb row 10 ≡ false → entryIn row ≡ noEntry
-    none t = lib.ListN.List·getD-eq-default table noEntry (ltb-false row 10 t)
+    none : ltb row (length table) ≡ false → entryIn row ≡ noEntry
+    none t = List·getD-eq-default table noEntry (ltb-false row (length table) t)
 
     weaker : eqb 1 k ≡ eqb 0 k
     weaker = ne-eqb 1 k (λ e. omega arith) ∙ sym (ne-eqb 0 k (λ e. omega arith))
@@ -80,7 +80,7 @@ module _ (rs : List Named) where
   closed-formed : (s : List ℕ) (close : ℕ) (x : Reading) → Good x → Good (closed s close x)
   unfolding closed
   closed-formed s close (read t p) h =
-      by-case Good (eqb (next s p) close) (λ e. by-case (Formed rs) (eqb close 93) (λ u. h) (λ u. h)) (λ e. tt)
+      by-case Good (eqb (next s p) close) (λ e. by-case (Formed rs) (eqb close squareClose) (λ u. h) (λ u. h)) (λ e. tt)
   closed-formed s close outside h = tt
 
   turned-formed : (row : ℕ) (l : Expr) (n : Number) → isOf rotations (entryIn row .operator) ≡ true → Formed rs l → Good (turned row l n)
@@ -131,8 +131,8 @@ module _ (rs : List Named) where
       operand-formed : (f d at : ℕ) → Good (operand f rs s d at)
       operand-formed zero d at = tt
       operand-formed (suc f) d at =
-          by-case Good (eqb (next s at) 40)
-          (λ t. enclosed-formed f d 41 (skip s at + 1))
+          by-case Good (eqb (next s at) roundOpen)
+          (λ t. enclosed-formed f d roundClose (skip s at + 1))
           (λ t.
           by-case Good (isLetter (next s at))
           (λ u. worded-formed f d (skip s at))
@@ -141,13 +141,13 @@ module _ (rs : List Named) where
       worded-formed : (f d at : ℕ) → Good (worded f rs s d at)
       worded-formed zero d at = tt
       worded-formed (suc f) d at =
-          by-case Good (same (slice s at (runEnd class.Word s at)) (78 ∷ 111 ∷ 116 ∷ []))
+          by-case Good (same (slice s at (runEnd class.Word s at)) notToken)
           (λ t. negated-formed f d (runEnd class.Word s at))
           (λ t.
-          by-case Good (same (slice s at (runEnd class.Word s at)) (77 ∷ []))
+          by-case Good (same (slice s at (runEnd class.Word s at)) memoryToken)
           (λ u.
-          by-case Good (eqb (next s (runEnd class.Word s at)) 91)
-          (λ v. enclosed-formed f d 93 (skip s (runEnd class.Word s at) + 1))
+          by-case Good (eqb (next s (runEnd class.Word s at)) squareOpen)
+          (λ v. enclosed-formed f d squareClose (skip s (runEnd class.Word s at) + 1))
           (λ v. tt))
           (λ u. reference-formed s at (referenceAt rs s at) refl))
 
@@ -198,15 +198,15 @@ module _ (rs : List Named) where
     address-formed : (x : Reading) → Good x → FormedDestination rs (ofAddress s x)
     unfolding ofAddress
     address-formed (read t p) h =
-        by-case (FormedDestination rs) (eqb (next s p) 93 && eqb (skip s p + 1) (length s) && leb (pieces t) mostPieces)
-        (λ e. accepted t h (and-right (eqb (next s p) 93 && eqb (skip s p + 1) (length s)) (leb (pieces t) mostPieces) e))
+        by-case (FormedDestination rs) (eqb (next s p) squareClose && eqb (skip s p + 1) (length s) && leb (pieces t) mostPieces)
+        (λ e. accepted t h (and-right (eqb (next s p) squareClose && eqb (skip s p + 1) (length s)) (leb (pieces t) mostPieces) e))
         (λ e. tt)
     address-formed outside h = tt
 
     memory-formed : (end : ℕ) → FormedDestination rs (memoryAt rs s end)
     unfolding memoryAt
     memory-formed end =
-        by-case (FormedDestination rs) (eqb (next s end) 91)
+        by-case (FormedDestination rs) (eqb (next s end) squareOpen)
         (λ t. address-formed (level (fuel s) rs s 0 weakest (skip s end + 1)) (level-formed (fuel s) 0 weakest (skip s end + 1)))
         (λ t. tt)
 
@@ -215,7 +215,7 @@ module _ (rs : List Named) where
     destination-formed =
         by-case (FormedDestination rs) (trimmed s)
         (λ t.
-        by-case (FormedDestination rs) (same (slice s 0 (runEnd class.Word s 0)) (77 ∷ []))
+        by-case (FormedDestination rs) (same (slice s 0 (runEnd class.Word s 0)) memoryToken)
         (λ u. memory-formed (runEnd class.Word s 0))
         (λ u. name-formed (referenceAt rs s 0) refl))
         (λ t. tt)

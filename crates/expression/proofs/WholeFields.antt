@@ -21,7 +21,6 @@ use Rattle.expression.specs.Expression.{trimmed, whole, expression}
 use Rattle.code.specs.Met.{Held, Meets, Taken, Grown}
 use Rattle.expression.specs.Met.{Same, Whole}
 use Rattle.code.proofs.Parts.{met}
-use Rattle.grammar.proofs.Calls.{faulty}
 
 module _ (s : List ℕ) (t : Expr) (p : ℕ) where
   all-of-it : eqb p (length s) && leb (pieces t) mostPieces ≡ true → whole s (read t p) ≡ read t p
@@ -33,15 +32,15 @@ module _ (s : List ℕ) (t : Expr) (p : ℕ) where
   not-all e = rw (e, whole)
 
 -- "at most 32", of an expression's own pieces and of the count behind those before it
-pub few-pieces : (n k m : ℕ) → m ≡ n + k → leb k mostPieces ≡ leb m (n + 32)
+pub few-pieces : (n k m : ℕ) → m ≡ n + k → leb k mostPieces ≡ leb m (n + mostPieces)
 few-pieces n k m e =
     by-test (leb k mostPieces)
-    (λ t. t ∙ sym (le-leb m (n + 32) (omega (arith, leb-true k mostPieces t))))
-    (λ t. t ∙ sym (lt-leb m (n + 32) (omega (arith, leb-false k mostPieces t))))
+    (λ t. t ∙ sym (le-leb m (n + mostPieces) (omega (arith, leb-true k mostPieces t))))
+    (λ t. t ∙ sym (lt-leb m (n + mostPieces) (omega (arith, leb-false k mostPieces t))))
 
 module _ (s : List ℕ) (c : Cursor) (w n : ℕ) where
   abbrev ends : ℕ → Bool
-  ends q = eqb q (length s) && leb (c .pieces) (n + 32)
+  ends q = eqb q (length s) && leb (c .pieces) (n + mostPieces)
 
   -- the definition's test is the code's
   same-test : (t : Expr) (p : ℕ) (from : Cursor) (before after : List ℕ) → from .pieces ≡ n → Held t p c w from before after
@@ -77,7 +76,3 @@ module _ (rs : List Named) (s : List ℕ) where
   pub untrimmed : trimmed s ≡ false → expression rs s ≡ outside
   unfolding expression
   untrimmed e = rw (e, expression)
-
-  pub whole-fault : (from : Cursor) (before mid after : List ℕ) (x : Reading) → Meets x Fault from before mid → Meets (whole s x) Fault from before after
-  unfolding whole
-  whole-fault from before mid after x m = met (whole s x) outside Fault from before after (ap (whole s) (faulty x from before mid m)) tt

@@ -3,7 +3,7 @@
 -- Assumes nothing.
 use Prim.Native.Nat.{ℕ, _+_, _-_}
 use mathlib.Core.Bool.{Bool, true, false, not, _&&_}
-use mathlib.Core.List.{List, [], _∷_}
+use mathlib.Core.List.{List}
 use lib.Dec.{eqb, leb}
 use lib.ListN.{length, getD}
 use Rattle.characters.specs.Characters.{runEnd, same}
@@ -16,7 +16,7 @@ use Rattle.tokens.specs.Tokens.{skip, next, slice}
 use Rattle.bit_parts.specs.References.{referenceAt}
 use Rattle.code.specs.Tree.{pieces, mostPieces, Destination, toRegister, toPart, toMemory, nowhere}
 use Rattle.code.specs.Readings.{Reading, read, outside}
-use Rattle.grammar.specs.Grammar.{level, fuel}
+use Rattle.grammar.specs.Grammar.{squareOpen, squareClose, memoryToken, level, fuel}
 
 -- "not at its ends"
 abbrev pub trimmed : List ℕ → Bool
@@ -38,20 +38,20 @@ ofName s Unknown = nowhere
 -- "a destination's own bracket isn't counted"; "a memory destination's address being one of its own"
 unfoldable pub ofAddress : List ℕ → Reading → Destination
 ofAddress s (read t p) =
-    elim (eqb (next s p) 93 && eqb (skip s p + 1) (length s) && leb (pieces t) mostPieces) [ true ↦ toMemory t | false ↦ nowhere ]
+    elim (eqb (next s p) squareClose && eqb (skip s p + 1) (length s) && leb (pieces t) mostPieces) [ true ↦ toMemory t | false ↦ nowhere ]
 ofAddress s outside = nowhere
 
 -- `M[expression]`, from the place after `M` on
 unfoldable pub memoryAt : List Named → List ℕ → ℕ → Destination
 memoryAt rs s end =
-    elim (eqb (next s end) 91) [ true ↦ ofAddress s (level (fuel s) rs s 0 weakest (skip s end + 1)) | false ↦ nowhere ]
+    elim (eqb (next s end) squareOpen) [ true ↦ ofAddress s (level (fuel s) rs s 0 weakest (skip s end + 1)) | false ↦ nowhere ]
 
 -- a field that is a destination
 unfoldable pub destination : List Named → List ℕ → Destination
 destination rs s =
     elim (trimmed s) [
       | true ↦
-          elim (same (slice s 0 (runEnd Word s 0)) (77 ∷ [])) [
+          elim (same (slice s 0 (runEnd Word s 0)) memoryToken) [
             | true ↦ memoryAt rs s (runEnd Word s 0)
             | false ↦ ofName s (referenceAt rs s 0)
           ]

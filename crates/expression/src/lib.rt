@@ -41,7 +41,7 @@ fn is_trimmed(s: &[u8]) -> bool
     if n == 0 {
         return true;
     }
-    (characters::byte(s, 0) != 32) & (characters::byte(s, n - 1) != 32)
+    (characters::byte(s, 0) != b' ') & (characters::byte(s, n - 1) != b' ')
 }
 
 // What was read, if it ends with the field and has no more than 32 pieces.

@@ -24,15 +24,19 @@ add-if1-2 c = search needs
 
 returns : tie.Need-returns
 returns c =
-    let a = c .before .before .before .before .before .before .args in
+    let skipped = c .before .before .before .before in
+    let a = skipped .before .before .args in
+    let byte = c .before .before .before .byte in
     addressed (a .s .now) (a .end) (a .from)
-    (as-found (a .s .now) (a .end) (a .from) (c .before .before .before .before .skip-spaces .result) (c .before .before .before .byte .result) (c .before .before .before .before .skip-spaces .ensures) (c .before .before .before .byte .ensures) ∙ c .if1 .taken)
+    (as-found (a .s .now) (a .end) (a .from) (skipped .skip-spaces .result) (byte .result) (skipped .skip-spaces .ensures) (byte .ensures) ∙ c .if1 .taken)
 
 returns-2 : tie.Need-returns-2
 returns-2 c =
-    let a = c .before .before .before .before .before .before .args in
+    let skipped = c .before .before .before .before in
+    let a = skipped .before .before .args in
+    let byte = c .before .before .before .byte in
     unaddressed (a .s .now) (a .end) (a .from)
-    (as-found (a .s .now) (a .end) (a .from) (c .before .before .before .before .skip-spaces .result) (c .before .before .before .byte .result) (c .before .before .before .before .skip-spaces .ensures) (c .before .before .before .byte .ensures) ∙ c .if1 .left)
+    (as-found (a .s .now) (a .end) (a .from) (skipped .skip-spaces .result) (byte .result) (skipped .skip-spaces .ensures) (byte .ensures) ∙ c .if1 .left)
 
 pub addressed-place-spec : {M : Type 1} → statement M
 addressed-place-spec = tie.close (tie.spec skip-spaces-requires byte-requires add-if1 add-if1-2 returns returns-2)

@@ -1,12 +1,11 @@
 -- `expression::memory_place`: the weakest level behind the bracket, with calls enough for the field.
-use mathlib.Core.Path.{sym, ap, _∙_}
-use Prim.Native.Nat.{ℕ, _+_}
+use mathlib.Core.Path.{sym, _∙_}
+use Prim.Native.Nat.{_+_}
 use native.Mathlib.Omega.{arith}
 use Rattle.names.specs.Names.{entries}
 use Rattle.operators.specs.Operators.{weakest}
-use Rattle.tokens.proofs.Tokens.{present, at-mark, off-mark}
-use Rattle.code.specs.declared.Cursor.{Cursor}
-use Rattle.grammar.specs.Grammar.{level, fuel}
+use Rattle.tokens.proofs.Tokens.{present}
+use Rattle.grammar.specs.Grammar.{squareOpen, level, fuel}
 use Rattle.expression.specs.Expression.{ofAddress, memoryAt}
 use Rattle.expression.proofs.Destinations.{address-fault, aimed, opens, bare}
 use borrow.Author.Needs.{needs}
@@ -23,11 +22,15 @@ byte-requires c κs =
 
 add-t14 : tie.Need-add-t14
 add-t14 c =
-    omega (arith, present (c .before .before .before .before .before .args .s .now) (c .before .before .skip-spaces .result) 91 (sym (c .before .byte .ensures) ∙ c .if1 .taken) (omega arith))
+    let skipped = c .before .before in
+    omega (arith, present (skipped .before .before .before .args .s .now) (skipped .skip-spaces .result) squareOpen (sym (c .before .byte .ensures) ∙ c .if1 .taken) (omega arith))
 
 read-level-requires : tie.Need-read-level-requires
 read-level-requires c κs =
-    omega (arith, c .before .before .before .before .before .before .pre, present (c .before .before .before .before .before .before .args .s .now) (c .before .before .before .skip-spaces .result) 91 (sym (c .before .before .byte .ensures) ∙ c .before .if1 .taken) (omega arith))
+    let skipped = c .before .before .before in
+    let called = skipped .before .before .before in
+    let inside = present (called .args .s .now) (skipped .skip-spaces .result) squareOpen (sym (c .before .before .byte .ensures) ∙ c .before .if1 .taken) (omega arith) in
+    omega (arith, called .pre, inside)
 
 enum-known-close : tie.Need-enum-known-close
 enum-known-close c =
@@ -35,8 +38,8 @@ enum-known-close c =
 
 addressed-place-requires : tie.Need-addressed-place-requires
 addressed-place-requires c κs =
-    let g = rw (c .before .close .given .1) at (c .before .before .before .read-level .ensures .grown) in
-    omega (arith, c .before .before .before .before .before .before .before .before .before .before .pre, g)
+    let growth = rw (c .before .close .given .1) at (c .before .before .before .read-level .ensures .grown) in
+    omega (arith, c .before .before .before .before .before .before .before .before .before .before .pre, growth)
 
 enum-told : tie.Need-enum-told
 enum-told c =
@@ -44,34 +47,38 @@ enum-told c =
 
 returns : tie.Need-returns
 returns c =
-    let a = c .before .before .before .before .before .before .before .before .before .before .before .args in
+    let skipped = c .before .before .before .before .before .before .before .before in
+    let a = skipped .before .before .before .args in
     let s = a .s .now in
     let rs = entries (a .text .now) (a .d) in
-    let q = c .before .before .before .before .before .before .before .before .skip-spaces .result in
+    let q = skipped .skip-spaces .result in
     let x = level (fuel s) rs s 0 weakest (q + 1) in
-    let start : Cursor = record { place = q + 1; words = a .words; pieces = a .pieces } in
-    let y = rw (c .before .before .close .given .1) at (c .before .before .before .before .read-level .ensures) in
-    let g = y .grown in
-    aimed (c .addressed-place .result) (memoryAt rs s (a .end)) (ofAddress s x) s (record { place = 0; words = a .words; pieces = a .pieces }) (q + 1) (a .code .now) (c .before .before .before .before .read-level .last .1 .1 .1 .0)
-    (opens rs s (a .end) (at-mark s (a .end) q (c .before .before .before .before .before .before .before .byte .result) 91 (c .before .before .before .before .before .before .before .before .skip-spaces .ensures) (c .before .before .before .before .before .before .before .byte .ensures) (c .before .before .before .before .before .before .if1 .taken)) ∙ ap (λ (k : ℕ). ofAddress s (level (fuel s) rs s 0 weakest (k + 1))) (sym (c .before .before .before .before .before .before .before .before .skip-spaces .ensures)))
-    (c .addressed-place .ensures x (c .before .before .close .given .0 .1 .0) (a .code .now) (c .before .before .before .before .read-level .last .1 .1 .1 .0) (omega (arith, g)) (omega (arith, g)) (y .meets (fuel s) (omega arith)))
+    let close = c .before .before .close .given in
+    let call = c .before .before .before .before .read-level in
+    let code = call .last .1 .1 .1 .0 in
+    let answer = rw (close .1) at (call .ensures) in
+    let growth = answer .grown in
+    aimed (c .addressed-place .result) (memoryAt rs s (a .end)) (ofAddress s x) s (record { place = 0; words = a .words; pieces = a .pieces }) (q + 1) (a .code .now) code
+    (opens rs s (a .end) q _ (skipped .skip-spaces .ensures) (c .before .before .before .before .before .before .before .byte .ensures) (c .before .before .before .before .before .before .if1 .taken))
+    (c .addressed-place .ensures x (close .0 .1 .0) (a .code .now) code (omega (arith, growth)) (omega (arith, growth)) (answer .meets (fuel s) (omega arith)))
 
 returns-2 : tie.Need-returns-2
 returns-2 c =
-    let a = c .before .before .before .before .before .before .before .before .before .args in
+    let skipped = c .before .before .before .before .before .before in
+    let a = skipped .before .before .before .args in
     let s = a .s .now in
     let rs = entries (a .text .now) (a .d) in
-    let q = c .before .before .before .before .before .before .skip-spaces .result in
-    let x = level (fuel s) rs s 0 weakest (q + 1) in
-    let y = rw (c .enum-told .given .1) at (c .before .before .read-level .ensures) in
-    opens rs s (a .end) (at-mark s (a .end) q (c .before .before .before .before .before .byte .result) 91 (c .before .before .before .before .before .before .skip-spaces .ensures) (c .before .before .before .before .before .byte .ensures) (c .before .before .before .before .if1 .taken))
-    ∙ ap (λ (k : ℕ). ofAddress s (level (fuel s) rs s 0 weakest (k + 1))) (sym (c .before .before .before .before .before .before .skip-spaces .ensures))
-    ∙ address-fault s x (record { place = q + 1; words = a .words; pieces = a .pieces }) (a .code .now) (c .before .before .read-level .last .1 .1 .1 .0) (y .meets (fuel s) (omega arith))
+    let q = skipped .skip-spaces .result in
+    let call = c .before .before .read-level in
+    let answer = rw (c .enum-told .given .1) at (call .ensures) in
+    opens rs s (a .end) q _ (skipped .skip-spaces .ensures) (c .before .before .before .before .before .byte .ensures) (c .before .before .before .before .if1 .taken)
+    ∙ address-fault s (level (fuel s) rs s 0 weakest (q + 1)) (record { place = q + 1; words = a .words; pieces = a .pieces }) (a .code .now) (call .last .1 .1 .1 .0) (answer .meets (fuel s) (omega arith))
 
 returns-3 : tie.Need-returns-3
 returns-3 c =
-    let a = c .before .before .before .before .before .args in
-    bare (entries (a .text .now) (a .d)) (a .s .now) (a .end) (off-mark (a .s .now) (a .end) (c .before .before .skip-spaces .result) (c .before .byte .result) 91 (c .before .before .skip-spaces .ensures) (c .before .byte .ensures) (c .if1 .left))
+    let skipped = c .before .before in
+    let a = skipped .before .before .before .args in
+    bare (entries (a .text .now) (a .d)) (a .s .now) (a .end) _ _ (skipped .skip-spaces .ensures) (c .before .byte .ensures) (c .if1 .left)
 
 pub memory-place-spec : {M : Type 1} → statement M
 memory-place-spec =

@@ -20,19 +20,31 @@ enum-told c =
 
 returns : tie.Need-returns
 returns c =
-    ap (ofName (c .before .before .before .before .args .s .now)) (c .before .before .reference .given .1) ∙ to-register (c .before .before .before .before .args .s .now) (c .before .before .reference .given .0 .0) (c .before .before .reference .given .0 .1 .0) (c .before .before .reference .given .0 .1 .1 .0) (c .if1 .taken)
+    let s = c .before .before .before .before .args .s .now in
+    let given = c .before .before .reference .given in
+    let r = given .0 in
+    ap (ofName s) (given .1) ∙ to-register s (r .0) (r .1 .0) (r .1 .1 .0) (c .if1 .taken)
 
 returns-2 : tie.Need-returns-2
 returns-2 c =
-    ap (ofName (c .before .before .before .before .args .s .now)) (c .before .before .reference .given .1) ∙ not-register (c .before .before .before .before .args .s .now) (c .before .before .reference .given .0 .0) (c .before .before .reference .given .0 .1 .0) (c .before .before .reference .given .0 .1 .1 .0) (c .if1 .left)
+    let s = c .before .before .before .before .args .s .now in
+    let given = c .before .before .reference .given in
+    let r = given .0 in
+    ap (ofName s) (given .1) ∙ not-register s (r .0) (r .1 .0) (r .1 .1 .0) (c .if1 .left)
 
 returns-3 : tie.Need-returns-3
 returns-3 c =
-    ap (ofName (c .before .before .before .before .args .s .now)) (c .before .before .reference2 .given .1) ∙ to-part (c .before .before .before .before .args .s .now) (c .before .before .reference2 .given .0 .0) (c .before .before .reference2 .given .0 .1 .0) (c .before .before .reference2 .given .0 .1 .1 .1 .1 .0) (c .before .before .reference2 .given .0 .1 .1 .0) (c .before .before .reference2 .given .0 .1 .1 .1 .0) (c .if2 .taken)
+    let s = c .before .before .before .before .args .s .now in
+    let given = c .before .before .reference2 .given in
+    let r = given .0 in
+    ap (ofName s) (given .1) ∙ to-part s (r .0) (r .1 .0) (r .1 .1 .1 .1 .0) (r .1 .1 .0) (r .1 .1 .1 .0) (c .if2 .taken)
 
 returns-4 : tie.Need-returns-4
 returns-4 c =
-    ap (ofName (c .before .before .before .before .args .s .now)) (c .before .before .reference2 .given .1) ∙ not-part (c .before .before .before .before .args .s .now) (c .before .before .reference2 .given .0 .0) (c .before .before .reference2 .given .0 .1 .0) (c .before .before .reference2 .given .0 .1 .1 .1 .1 .0) (c .before .before .reference2 .given .0 .1 .1 .0) (c .before .before .reference2 .given .0 .1 .1 .1 .0) (c .if2 .left)
+    let s = c .before .before .before .before .args .s .now in
+    let given = c .before .before .reference2 .given in
+    let r = given .0 in
+    ap (ofName s) (given .1) ∙ not-part s (r .0) (r .1 .0) (r .1 .1 .1 .1 .0) (r .1 .1 .0) (r .1 .1 .1 .0) (c .if2 .left)
 
 returns-5 : tie.Need-returns-5
 unfolding ofName

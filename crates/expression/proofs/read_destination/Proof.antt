@@ -1,10 +1,6 @@
 -- `expression::read_destination`: `M` or a name.
-use mathlib.Core.Path.{_≡_, sym, ap, _∙_}
-use mathlib.Core.List.{List, [], _∷_}
-use Prim.Native.Nat.{ℕ, _-_}
+use mathlib.Core.Path.{sym, _∙_}
 use native.Mathlib.Omega.{arith}
-use lib.ListN.{take, drop}
-use Rattle.characters.specs.Characters.{runEnd, same}
 use Rattle.names.specs.Names.{entries}
 use Rattle.characters.specs.declared.Class.the-variants as class
 use Rattle.characters.proofs.Runs.{within}
@@ -13,9 +9,6 @@ use Rattle.expression.proofs.Destinations.{aimed, pointed, to-memory, t
 use borrow.Author.Needs.{needs}
 use Rattle.expression.proofs.read_destination.Statement.{statement}
 use Rattle.expression.proofs.read_destination.Tie as tie
-
-less-none : (n : ℕ) → n - 0 ≡ n
-less-none n = omega arith
 
 is-trimmed-requires : tie.Need-is-trimmed-requires
 is-trimmed-requires c κs =
@@ -39,15 +32,21 @@ is-same-requires c κs =
 
 memory-place-requires : tie.Need-memory-place-requires
 memory-place-requires c κs =
-    (c .before .before .before .before .before .before .before .before .before .before .pre .0, (c .before .before .before .before .before .before .before .before .before .before .pre .1 .0, (c .before .before .before .before .before .before .before .before .before .before .pre .1 .1, omega (arith, c .before .before .before .before .before .run-end .ensures, within class.Word (c .before .before .before .before .before .before .before .before .before .before .args .s .now) 0 (omega arith)))))
+    let ended = c .before .before .before .before .before in
+    let called = ended .before .before .before .before .before in
+    let h = called .pre in
+    (h .0, (h .1 .0, (h .1 .1, omega (arith, ended .run-end .ensures, within class.Word (called .args .s .now) 0 (omega arith)))))
 
 returns : tie.Need-returns
 returns c =
-    let a = c .before .before .before .before .before .before .before .before .before .before .before .args in
+    let ended = c .before .before .before .before .before .before in
+    let tested = ended .before in
+    let a = tested .before .before .before .before .args in
     let s = a .s .now in
     let rs = entries (a .text .now) (a .d) in
-    aimed (c .memory-place .result) (destination rs s) (memoryAt rs s (c .before .before .before .before .before .before .run-end .result)) s (record { place = 0; words = a .words; pieces = a .pieces }) 0 (a .code .now) (c .memory-place .last .1 .1 .1 .0)
-    (to-memory rs s (sym (c .before .before .before .before .before .before .before .before .is-trimmed .ensures) ∙ c .before .before .before .before .before .before .before .if1 .taken) (ap (λ (z : List ℕ). same z (77 ∷ [])) (ap (λ (k : ℕ). take k (drop 0 s)) (less-none (runEnd class.Word s 0) ∙ sym (c .before .before .before .before .before .before .run-end .ensures)) ∙ sym (c .before .before .before .before .before .part .ensures)) ∙ sym (c .before .before .before .is-same .ensures) ∙ c .before .before .if2 .taken) ∙ ap (memoryAt rs s) (sym (c .before .before .before .before .before .before .run-end .ensures)))
+    let trims = sym (tested .before .is-trimmed .ensures) ∙ tested .if1 .taken in
+    aimed (c .memory-place .result) (destination rs s) (memoryAt rs s (ended .run-end .result)) s (record { place = 0; words = a .words; pieces = a .pieces }) 0 (a .code .now) (c .memory-place .last .1 .1 .1 .0)
+    (to-memory rs s trims _ _ (ended .run-end .ensures) (c .before .before .before .before .before .part .ensures) (sym (c .before .before .before .is-same .ensures) ∙ c .before .before .if2 .taken))
     (c .memory-place .ensures)
 
 reference-at-requires : tie.Need-reference-at-requires
@@ -60,11 +59,14 @@ named-place-requires c κs =
 
 returns-2 : tie.Need-returns-2
 returns-2 c =
-    let a = c .before .before .before .before .before .before .before .before .before .before .before .args in
+    let ended = c .before .before .before .before .before .before in
+    let tested = ended .before in
+    let a = tested .before .before .before .before .args in
     let s = a .s .now in
     let rs = entries (a .text .now) (a .d) in
+    let trims = sym (tested .before .is-trimmed .ensures) ∙ tested .if1 .taken in
     pointed (c .named-place .result) (destination rs s) (ofName s (c .before .reference-at .result)) s (record { place = 0; words = a .words; pieces = a .pieces }) (a .code .now)
-    (to-name rs s (sym (c .before .before .before .before .before .before .before .before .is-trimmed .ensures) ∙ c .before .before .before .before .before .before .before .if1 .taken) (ap (λ (z : List ℕ). same z (77 ∷ [])) (ap (λ (k : ℕ). take k (drop 0 s)) (less-none (runEnd class.Word s 0) ∙ sym (c .before .before .before .before .before .before .run-end .ensures)) ∙ sym (c .before .before .before .before .before .part .ensures)) ∙ sym (c .before .before .before .is-same .ensures) ∙ c .before .before .if2 .left) ∙ ap (ofName s) (sym (c .before .reference-at .ensures)))
+    (to-name rs s trims _ _ (ended .run-end .ensures) (c .before .before .before .before .before .part .ensures) (sym (c .before .before .before .is-same .ensures) ∙ c .before .before .if2 .left) _ (c .before .reference-at .ensures))
     (c .named-place .ensures)
 
 returns-3 : tie.Need-returns-3

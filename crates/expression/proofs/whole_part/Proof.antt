@@ -9,11 +9,13 @@ add-if1 c = search needs
 
 returns : tie.Need-returns
 returns c =
-    is-whole (c .before .before .before .args .s .now) (c .before .before .before .args .end) (c .before .before .before .args .width) (c .before .before .before .args .pieces) (c .if1 .taken)
+    let a = c .before .before .before .args in
+    is-whole (a .s .now) (a .end) (a .width) (a .pieces) (c .if1 .taken)
 
 returns-2 : tie.Need-returns-2
 returns-2 c =
-    is-part (c .before .before .before .args .s .now) (c .before .before .before .args .end) (c .before .before .before .args .width) (c .before .before .before .args .pieces) (c .if1 .left)
+    let a = c .before .before .before .args in
+    is-part (a .s .now) (a .end) (a .width) (a .pieces) (c .if1 .left)
 
 pub whole-part-spec : {M : Type 1} → statement M
 whole-part-spec = tie.close (tie.spec add-if1 returns returns-2)

@@ -4,6 +4,7 @@ use characters::Class;
 use code::CODE_PLACES;
 use code::Cursor;
 use code::Part;
+use grammar::WEAKEST;
 use names::Dictionary;
 ghost use mathlib.Core.Path.{_≡_};
 ghost use Prim.Native.Nat.{_+_, _≤_};
@@ -75,7 +76,7 @@ pub fn read_expression(
             words: words,
             pieces: pieces,
         };
-        match grammar::read_level(text, d, s, code, 0, 1, start) {
+        match grammar::read_level(text, d, s, code, 0, WEAKEST, start) {
             Part::Found(end, width) => whole_part(s, end, width, pieces),
             Part::Fault => Part::Fault,
         }
@@ -162,7 +163,7 @@ fn memory_place(
             words: words,
             pieces: pieces,
         };
-        match grammar::read_level(text, d, s, code, 0, 1, start) {
+        match grammar::read_level(text, d, s, code, 0, WEAKEST, start) {
             Part::Found(close, _) => addressed_place(s, close, start),
             Part::Fault => Place::Nowhere,
         }

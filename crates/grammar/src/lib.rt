@@ -18,6 +18,9 @@ ghost use Rattle.grammar.specs.Grammar.{level, more, operation, operand,
 ghost use Rattle.code.specs.Met.{Room, Behind};
 ghost use Rattle.grammar.specs.Met.{Answer, calls};
 
+// The weakest strength, that of Or.
+pub const WEAKEST: u8 = 1;
+
 // "Open brackets, parentheses and Nots nest to 8."
 const DEEPEST: usize = 8;
 
@@ -91,7 +94,8 @@ fn read_operation(
 {
     let row = tokens::operator_at(s, left.place);
     let end = tokens::operator_end(s, left.place);
-    if strength == operators::entry_in(2).strength {
+    let rotations = operators::entry_in(2).strength;
+    if strength == rotations {
         return compounds::rotated_part(s, code, row, left, width, end);
     }
     let start = Cursor {
@@ -222,7 +226,7 @@ fn read_enclosed(
         (now (s .entry)) (c .place + 1) (c .words + 2) (c .pieces + 2) r c (now (code .entry)) (now (code .exit)) ⌝ }
 {
     if depth < DEEPEST {
-        match read_level(text, d, s, code, depth + 1, 1, c) {
+        match read_level(text, d, s, code, depth + 1, WEAKEST, c) {
             Part::Found(inner, width) => compounds::closed_part(s, code, inner, width, close),
             Part::Fault => Part::Fault,
         }

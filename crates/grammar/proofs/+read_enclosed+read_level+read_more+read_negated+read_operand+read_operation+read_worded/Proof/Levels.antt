@@ -203,7 +203,7 @@ read-operation-entry-in-requires t c κs = tt
 
 pub read-operation-rotated-part-requires : (t : ℕ) → read-operation-lts.Need-rotated-part-requires (read-operation-claims t) (read-operation-at t) read-operation.Post
 read-operation-rotated-part-requires t c κs =
-    let ended = c .before .before .before .before in
+    let ended = c .before .before .before in
     let called = ended .before .before .before .before in
     let a = called .args in
     let past = operator-past (a .s .now) (a .left .place) (a .strength) (called .pre .1 .1 .1 .1 .1) (called .pre .1 .1 .1 .0 .0) in
@@ -211,7 +211,7 @@ read-operation-rotated-part-requires t c κs =
 
 pub read-operation-returns : (t : ℕ) → read-operation-lts.Need-returns (read-operation-claims t) (read-operation-at t) read-operation.Post
 read-operation-returns t c =
-    let ended = c .before .before .before .before .before in
+    let ended = c .before .before .before .before in
     let called = ended .before .before .before .before in
     let a = called .args in
     let past = operator-past (a .s .now) (a .left .place) (a .strength) (called .pre .1 .1 .1 .1 .1) (called .pre .1 .1 .1 .0 .0) in
@@ -224,7 +224,7 @@ read-operation-returns t c =
     let end = ended .operator-end .result in
     let ends = ended .operator-end .ensures in
     answered-behind 0 (λ g l. turned row l (decimalAt s (skip s end))) (omega arith)
-    (λ l. operation-turns rs s d k l p row (ended .before .operator-at .ensures) end ends (c .before .before .if1 .taken ∙ ap (λ (e : Entry). e .strength) (c .before .before .before .before .entry-in .ensures)))
+    (λ l. operation-turns rs s d k l p row (ended .before .operator-at .ensures) end ends (c .before .before .if1 .taken ∙ ap (λ (e : Entry). e .strength) (c .before .before .before .entry-in .ensures)))
     (λ l from before h g b. c .rotated-part .ensures .meets l p from before h 0 (omega arith))
     (regrown s (c .rotated-part .result) _ _ _ _ _ _ (c .rotated-part .ensures .grown) (omega arith) (omega arith) (omega arith))
 
@@ -234,7 +234,7 @@ read-operation-add-read-level t c =
 
 pub read-operation-read-level-requires : (t : ℕ) → read-operation-lts.Need-read-level-requires (read-operation-claims t) (read-operation-at t) read-operation.Post
 read-operation-read-level-requires t c κs =
-    let ended = c .before .before .before .before in
+    let ended = c .before .before .before in
     let called = ended .before .before .before .before in
     let a = called .args in
     let past = operator-past (a .s .now) (a .left .place) (a .strength) (called .pre .1 .1 .1 .1 .1) (called .pre .1 .1 .1 .0 .0) in
@@ -246,7 +246,7 @@ read-operation-enum-known-right t c =
 
 pub read-operation-joined-part-requires : (t : ℕ) → read-operation-lts.Need-joined-part-requires (read-operation-claims t) (read-operation-at t) read-operation.Post
 read-operation-joined-part-requires t c κs =
-    let ended = c .before .before .before .before .before .before .before .before .before in
+    let ended = c .before .before .before .before .before .before .before .before in
     let called = ended .before .before .before .before in
     let a = called .args in
     let past = operator-past (a .s .now) (a .left .place) (a .strength) (called .pre .1 .1 .1 .1 .1) (called .pre .1 .1 .1 .0 .0) in
@@ -259,7 +259,7 @@ read-operation-enum-told t c =
 
 pub read-operation-returns-2 : (t : ℕ) → read-operation-lts.Need-returns-2 (read-operation-claims t) (read-operation-at t) read-operation.Post
 read-operation-returns-2 t c =
-    let ended = c .before .before .before .before .before .before .before .before .before .before in
+    let ended = c .before .before .before .before .before .before .before .before .before in
     let called = ended .before .before .before .before in
     let a = called .args in
     let past = operator-past (a .s .now) (a .left .place) (a .strength) (called .pre .1 .1 .1 .1 .1) (called .pre .1 .1 .1 .0 .0) in
@@ -276,14 +276,14 @@ read-operation-returns-2 t c =
     let answer = rw (right .1) at (c .before .before .before .before .before .read-level .ensures) in
     let growth = answer .grown in
     answered-behind (calls s end (9 - (k + 1))) (λ g l. joined row l (level g rs s d (k + 1) end)) (omega arith)
-    (λ l. operation-joins rs s d k l p row (ended .before .operator-at .ensures) end ends (λ i. tested .if1 .left (i ∙ sym (ap (λ (e : Entry). e .strength) (tested .before .before .entry-in .ensures)))))
+    (λ l. operation-joins rs s d k l p row (ended .before .operator-at .ensures) end ends (λ i. tested .if1 .left (i ∙ sym (ap (λ (e : Entry). e .strength) (tested .before .entry-in .ensures)))))
     (λ l from before h g b. c .joined-part .ensures .meets l (level g rs s d (k + 1) end) p end from before (a .code .now) h (answer .meets g b))
     (regrown s (c .joined-part .result) _ _ _ _ _ _ (grown-by-one s (right .0 .0) (right .0 .1 .0) _ _ _ (c .joined-part .result) growth (c .joined-part .ensures .one-more)) (omega arith) (omega arith) (omega arith))
 
 pub read-operation-returns-3 : (t : ℕ) → read-operation-lts.Need-returns-3 (read-operation-claims t) (read-operation-at t) read-operation.Post
 unfolding joined
 read-operation-returns-3 t c =
-    let ended = c .before .before .before .before .before .before .before in
+    let ended = c .before .before .before .before .before .before in
     let called = ended .before .before .before .before in
     let a = called .args in
     let past = operator-past (a .s .now) (a .left .place) (a .strength) (called .pre .1 .1 .1 .1 .1) (called .pre .1 .1 .1 .0 .0) in
@@ -298,6 +298,6 @@ read-operation-returns-3 t c =
     let tested = c .before .before .before .before in
     let answer = rw (c .enum-told .given .1) at (c .before .before .read-level .ensures) in
     answered-behind (calls s end (9 - (k + 1))) (λ g l. joined row l (level g rs s d (k + 1) end)) (omega arith)
-    (λ l. operation-joins rs s d k l p row (ended .before .operator-at .ensures) end ends (λ i. tested .if1 .left (i ∙ sym (ap (λ (e : Entry). e .strength) (tested .before .before .entry-in .ensures)))))
+    (λ l. operation-joins rs s d k l p row (ended .before .operator-at .ensures) end ends (λ i. tested .if1 .left (i ∙ sym (ap (λ (e : Entry). e .strength) (tested .before .entry-in .ensures)))))
     (λ l from before h g b. still-fault (joined row l) (level g rs s d (k + 1) end) _ from _ _ before _ refl (answer .meets g b))
     tt

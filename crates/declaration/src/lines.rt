@@ -142,7 +142,7 @@ fn add_label(text: &[u8], q: Progress, start: usize, label: &[u8]) -> Step
     refused(q, Fault::Label)
 }
 
-// The `reg` line that stands at a place in the text.
+// The `reg` line that stands at a place in the text. Its name stands behind four bytes, `reg` and a TAB.
 pub fn reg_line(text: &[u8], q: Progress, place: usize, line: &[u8]) -> Step
     requires { ⌜ Within q ⌝ ∗ ⌜ now line ≡ take (length (now line)) (drop place (now text)) ⌝ ∗ ⌜ place + length (now line) ≤ mostBytes ⌝
         ∗ ⌜ same (field 0 (now line)) regWord ≡ true ⌝ }
@@ -160,7 +160,7 @@ pub fn reg_line(text: &[u8], q: Progress, place: usize, line: &[u8]) -> Step
     refused(q, Fault::Line)
 }
 
-// The `at` line that stands at a place in the text.
+// The `at` line that stands at a place in the text. Its label stands behind three bytes, `at` and a TAB.
 pub fn at_line(text: &[u8], q: Progress, place: usize, line: &[u8]) -> Step
     requires { ⌜ Within q ⌝ ∗ ⌜ now line ≡ take (length (now line)) (drop place (now text)) ⌝ ∗ ⌜ place + length (now line) ≤ mostBytes ⌝
         ∗ ⌜ same (field 0 (now line)) atWord ≡ true ⌝ }

@@ -22,6 +22,7 @@ use Rattle.code.specs.Met.{Held, Meets, Taken, Grown}
 use Rattle.expression.specs.Met.{Same, Whole}
 use Rattle.code.proofs.Parts.{met}
 
+-- by the definition's test
 module _ (s : List ℕ) (t : Expr) (p : ℕ) where
   all-of-it : eqb p (length s) && leb (pieces t) mostPieces ≡ true → whole s (read t p) ≡ read t p
   unfolding whole
@@ -46,14 +47,20 @@ module _ (s : List ℕ) (c : Cursor) (w n : ℕ) where
   same-test : (t : Expr) (p : ℕ) (from : Cursor) (before after : List ℕ) → from .pieces ≡ n → Held t p c w from before after
       → eqb p (length s) && leb (pieces t) mostPieces ≡ ends (c .place)
   same-test t p from before after f h =
-      ap (λ (b : Bool). eqb p (length s) && b) (few-pieces n (pieces t) (c .pieces) (h .pieces-are ∙ ap (λ (k : ℕ). k + pieces t) f)) ∙ ap ends (sym (h .place-is))
+      ap (λ (b : Bool). eqb p (length s) && b) (few-pieces n (pieces t) (c .pieces) (h .pieces-are ∙ ap (λ (k : ℕ). k + pieces t) f))
+      ∙ ap ends (sym (h .place-is))
 
-  taken : ends (c .place) ≡ true → (x : Reading) (from : Cursor) (before after : List ℕ) → from .pieces ≡ n → Meets x (Found c w) from before after → Meets (whole s x) (Found c w) from before after
-  taken e (read t p) from before after f h = met (whole s (read t p)) (read t p) (Found c w) from before after (all-of-it s t p (same-test t p from before after f h ∙ e)) h
+  -- so what was read is the whole field's where the code's test holds, and the field is outside the rules where it doesn't
+  taken : ends (c .place) ≡ true → (x : Reading) (from : Cursor) (before after : List ℕ) → from .pieces ≡ n → Meets x (Found c w) from before after
+      → Meets (whole s x) (Found c w) from before after
+  taken e (read t p) from before after f h =
+      met (whole s (read t p)) (read t p) (Found c w) from before after (all-of-it s t p (same-test t p from before after f h ∙ e)) h
   taken e outside from before after f h = absurd h
 
-  left : ends (c .place) ≡ false → (x : Reading) (from : Cursor) (before after : List ℕ) → from .pieces ≡ n → Meets x (Found c w) from before after → Meets (whole s x) Fault from before after
-  left e (read t p) from before after f h = met (whole s (read t p)) outside Fault from before after (not-all s t p (same-test t p from before after f h ∙ e)) tt
+  left : ends (c .place) ≡ false → (x : Reading) (from : Cursor) (before after : List ℕ) → from .pieces ≡ n → Meets x (Found c w) from before after
+      → Meets (whole s x) Fault from before after
+  left e (read t p) from before after f h =
+      met (whole s (read t p)) outside Fault from before after (not-all s t p (same-test t p from before after f h ∙ e)) tt
   left e outside from before after f h = absurd h
 
   pub is-whole : ends (c .place) ≡ true → Whole s c w n (Found c w)

@@ -1,4 +1,6 @@
--- The measure of each function of the cycle of calls, and its contract where the measure is a number, and where it is below one.
+-- The measure of each function of the cycle of calls, and its contract where the measure is a number, and where it is below one. A call that reads no byte
+-- falls by its last number: from more 9 to an operation 8, from an enclosed part 9 to a level (8 for the weakest, 2 for the strongest), an operand 1 and a worded one 0,
+-- from a negated one 3 to the strongest level. A byte that was read is worth ten.
 -- Assumes nothing.
 use Prim.Native.Nat.{ℕ, _-_, _<_}
 use Rattle.grammar.specs.Met.{calls}

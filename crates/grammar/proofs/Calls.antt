@@ -67,10 +67,11 @@ moved c q outside (Found d w) before after h = h
 moved c q outside Fault before after h = h
 
 -- what grew from a later start, or with less
-pub regrown : (s : List ℕ) (r : Part) (a n m a′ n′ m′ : ℕ) → Grown s a n m r → a′ ≤ a → n + a′ ≤ n′ + a → m + a′ ≤ m′ + a → Grown s a′ n′ m′ r
-regrown s (Found c w) a n m a′ n′ m′ g x y z =
-    record { onward = omega (arith, g .onward); inside = g .inside; words-most = omega (arith, g .words-most); pieces-most = omega (arith, g .pieces-most); narrow = g .narrow }
-regrown s Fault a n m a′ n′ m′ g x y z = tt
+pub regrown : (s : List ℕ) (r : Part) (a words pieces a′ words′ pieces′ : ℕ) → Grown s a words pieces r
+    → (a′ ≤ a) × (words + a′ ≤ words′ + a) × (pieces + a′ ≤ pieces′ + a) → Grown s a′ words′ pieces′ r
+regrown s (Found c w) a words pieces a′ words′ pieces′ g h =
+    record { onward = omega (arith, g .onward, h); inside = g .inside; words-most = omega (arith, g .words-most, h); pieces-most = omega (arith, g .pieces-most, h); narrow = g .narrow }
+regrown s Fault a words pieces a′ words′ pieces′ g h = tt
 
 -- a reading that meets a fault is outside the rules, and so is what is made of it
 pub faulty : (x : Reading) (from : Cursor) (before after : List ℕ) → Meets x Fault from before after → x ≡ outside
@@ -119,7 +120,7 @@ module _ (rs : List Named) (s : List ℕ) (d : ℕ) where
   more-outside k zero = refl
   more-outside k (suc f) = refl
 
-  -- a left side that is read goes on
+  -- what is read behind every left side that the code may hold is read behind the one that was found
   pub feed : (k f : ℕ) (x : Reading) (left : Cursor) (w : ℕ) (r : Part) (from : Cursor) (before mid after : List ℕ)
       → ((l : Expr) (p : ℕ) → Held l p left w from before mid → Meets (more f rs s d k (read l p)) r from before after)
       → Meets x (Found left w) from before mid → Meets (more f rs s d k x) r from before after

@@ -90,7 +90,7 @@ read-level-returns-2 t c =
     let weaker : k < strongest = omega (arith, called .pre, tested .if1 .left, ap (λ (e : Entry). e .strength) (tested .before .entry-in .ensures)) in
     answered (calls s p (9 - (k + 1))) (λ g. more g rs s d k (level g rs s d (k + 1) p)) (omega arith) (level-more rs s d k p weaker)
     (λ g b. feed rs s d k g (level g rs s d (k + 1) p) (left .0 .0) (left .0 .1 .0) _ _ _ _ _ (λ l q e. c .read-more .ensures .meets l q _ _ e g (omega (arith, growth, b))) (answer .meets g b))
-    (regrown s (c .read-more .result) _ _ _ _ _ _ (c .read-more .ensures .grown) (omega (arith, growth)) (omega (arith, growth)) (omega (arith, growth)))
+    (regrown s (c .read-more .result) _ _ _ _ _ _ (c .read-more .ensures .grown) (omega (arith, growth)))
 
 pub read-level-returns-3 : (t : ℕ) → read-level-lts.Need-returns-3 (read-level-claims t) (read-level-at t) read-level.Post
 read-level-returns-3 t c =
@@ -170,7 +170,7 @@ read-more-returns-2 t c =
     feed rs s d k g (operation g rs s d k l p) (next .0 .0) (next .0 .1 .0) _ from before _ _
     (λ m q e. c .read-more .ensures .meets m q from before e g (omega (arith, growth, b)))
     (answer .meets l p from before h g b))
-    (regrown s (c .read-more .result) _ _ _ _ _ _ (c .read-more .ensures .grown) (omega (arith, growth)) (omega (arith, growth)) (omega (arith, growth)))
+    (regrown s (c .read-more .result) _ _ _ _ _ _ (c .read-more .ensures .grown) (omega (arith, growth)))
 
 pub read-more-returns-3 : (t : ℕ) → read-more-lts.Need-returns-3 (read-more-claims t) (read-more-at t) read-more.Post
 read-more-returns-3 t c =
@@ -226,7 +226,7 @@ read-operation-returns t c =
     answered-behind 0 (λ g l. turned row l (decimalAt s (skip s end))) (omega arith)
     (λ l. operation-turns rs s d k l p row (ended .before .operator-at .ensures) end ends (c .before .before .if1 .taken ∙ ap (λ (e : Entry). e .strength) (c .before .before .before .entry-in .ensures)))
     (λ l from before h g b. c .rotated-part .ensures .meets l p from before h 0 (omega arith))
-    (regrown s (c .rotated-part .result) _ _ _ _ _ _ (c .rotated-part .ensures .grown) (omega arith) (omega arith) (omega arith))
+    (regrown s (c .rotated-part .result) _ _ _ _ _ _ (c .rotated-part .ensures .grown) (omega arith))
 
 pub read-operation-add-read-level : (t : ℕ) → read-operation-lts.Need-add-read-level (read-operation-claims t) (read-operation-at t) read-operation.Post
 read-operation-add-read-level t c =
@@ -278,7 +278,7 @@ read-operation-returns-2 t c =
     answered-behind (calls s end (9 - (k + 1))) (λ g l. joined row l (level g rs s d (k + 1) end)) (omega arith)
     (λ l. operation-joins rs s d k l p row (ended .before .operator-at .ensures) end ends (λ i. tested .if1 .left (i ∙ sym (ap (λ (e : Entry). e .strength) (tested .before .entry-in .ensures)))))
     (λ l from before h g b. c .joined-part .ensures .meets l (level g rs s d (k + 1) end) p end from before (a .code .now) h (answer .meets g b))
-    (regrown s (c .joined-part .result) _ _ _ _ _ _ (grown-by-one s (right .0 .0) (right .0 .1 .0) _ _ _ (c .joined-part .result) growth (c .joined-part .ensures .one-more)) (omega arith) (omega arith) (omega arith))
+    (regrown s (c .joined-part .result) _ _ _ _ _ _ (grown-by-one s (right .0 .0) (right .0 .1 .0) _ _ _ (c .joined-part .result) growth (c .joined-part .ensures .one-more)) (omega arith))
 
 pub read-operation-returns-3 : (t : ℕ) → read-operation-lts.Need-returns-3 (read-operation-claims t) (read-operation-at t) read-operation.Post
 unfolding joined

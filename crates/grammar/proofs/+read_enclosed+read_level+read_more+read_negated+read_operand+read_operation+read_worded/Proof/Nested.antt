@@ -118,7 +118,7 @@ read-enclosed-returns t c =
     let growth = answer .grown in
     answered (calls s p 8) (λ g. closed s (a .close) (level g rs s (d + 1) weakest p)) (omega arith) (enclosed-in rs s d p (a .close) (tested .if1 .taken))
     (λ g b. c .closed-part .ensures .meets (level g rs s (d + 1) weakest p) _ _ (answer .meets g b))
-    (regrown s (c .closed-part .result) _ _ _ _ _ _ (c .closed-part .ensures .grown) (omega (arith, growth)) (omega (arith, growth)) (omega (arith, growth)))
+    (regrown s (c .closed-part .result) _ _ _ _ _ _ (c .closed-part .ensures .grown) (omega (arith, growth)))
 
 pub read-enclosed-returns-2 : (t : ℕ) → read-enclosed-lts.Need-returns-2 (read-enclosed-claims t) (read-enclosed-at t) read-enclosed.Post
 unfolding closed

@@ -72,7 +72,7 @@ read-operand-returns t c =
     answered (calls s (start + 1) 9) (λ g. enclosed g rs s d roundClose (start + 1)) (omega arith)
     (operand-encloses rs s d p start _ starts here (c .before .before .if1 .taken))
     (λ g b. moved (a .c) (start + 1) (enclosed g rs s d roundClose (start + 1)) _ _ _ (c .read-enclosed .ensures .meets g b))
-    (regrown s (c .read-enclosed .result) _ _ _ _ _ _ (c .read-enclosed .ensures .grown) (omega arith) (omega arith) (omega arith))
+    (regrown s (c .read-enclosed .result) _ _ _ _ _ _ (c .read-enclosed .ensures .grown) (omega arith))
 
 pub read-operand-is-letter-requires : (t : ℕ) → read-operand-lts.Need-is-letter-requires (read-operand-claims t) (read-operand-at t) read-operand.Post
 read-operand-is-letter-requires t c κs = tt
@@ -113,7 +113,7 @@ read-operand-returns-2 t c =
     answered (calls s start 0) (λ g. worded g rs s d start) (omega arith)
     (operand-worded rs s d p start _ starts (c .before .before .before .before .before .byte .ensures) (c .before .before .before .before .if1 .left) letter)
     (λ g b. moved (a .c) start (worded g rs s d start) _ _ _ (c .read-worded .ensures .meets g b))
-    (regrown s (c .read-worded .result) _ _ _ _ _ _ (c .read-worded .ensures .grown) (omega arith) (omega arith) (omega arith))
+    (regrown s (c .read-worded .result) _ _ _ _ _ _ (c .read-worded .ensures .grown) (omega arith))
 
 pub read-operand-returns-3 : (t : ℕ) → read-operand-lts.Need-returns-3 (read-operand-claims t) (read-operand-at t) read-operand.Post
 read-operand-returns-3 t c =
@@ -131,7 +131,7 @@ read-operand-returns-3 t c =
     answered 0 (λ g. ofConstant (constantAt s start)) (omega arith)
     (operand-constant rs s d p start _ starts (c .before .before .before .before .before .byte .ensures) (c .before .before .before .before .if1 .left) letter)
     (λ g b. moved (a .c) start (ofConstant (constantAt s start)) _ _ _ (c .constant-part .ensures .meets))
-    (regrown s (c .constant-part .result) _ _ _ _ _ _ (c .constant-part .ensures .grown) (omega arith) (omega arith) (omega arith))
+    (regrown s (c .constant-part .result) _ _ _ _ _ _ (c .constant-part .ensures .grown) (omega arith))
 
 abbrev pub read-worded-claims : ℕ → read-worded-lts.Claims
 read-worded-claims t = (run-end-reads.Asked, run-end-reads.Learnt, part-reads.Asked, part-reads.Learnt, is-same-reads.Asked, is-same-reads.Learnt, read-negated-below t, read-negated.Post, skip-spaces-reads.Asked, skip-spaces-reads.Learnt, byte-reads.Asked, byte-reads.Learnt, read-enclosed-below t, read-enclosed.Post, reference-part-reads.Asked, reference-part-reads.Learnt)
@@ -176,7 +176,7 @@ read-worded-returns t c =
     answered (calls s end 3) (λ g. negated g rs s d end) (omega arith)
     (worded-not rs s d p end _ (ended .run-end .ensures) (c .before .before .before .before .before .part .ensures) (sym (c .before .before .before .is-same .ensures) ∙ c .before .before .if1 .taken))
     (λ g b. moved (a .c) end (negated g rs s d end) _ _ _ (c .read-negated .ensures .meets g b))
-    (regrown s (c .read-negated .result) _ _ _ _ _ _ (c .read-negated .ensures .grown) (omega arith) (omega arith) (omega arith))
+    (regrown s (c .read-negated .result) _ _ _ _ _ _ (c .read-negated .ensures .grown) (omega arith))
 
 pub read-worded-slice-aggregate-is-same-2 : (t : ℕ) → read-worded-lts.Need-slice-aggregate-is-same-2 (read-worded-claims t) (read-worded-at t) read-worded.Post
 read-worded-slice-aggregate-is-same-2 t c =
@@ -242,7 +242,7 @@ read-worded-returns-3 t c =
     answered (calls s (start + 1) 9) (λ g. enclosed g rs s d squareClose (start + 1)) (omega arith)
     (worded-memory rs s d p _ _ (ended .run-end .ensures) (c .before .before .before .before .before .before .before .before .before .before .before .part .ensures) no memory start _ starts here (c .before .before .if3 .left))
     (λ g b. moved (a .c) (start + 1) (enclosed g rs s d squareClose (start + 1)) _ _ _ (c .read-enclosed .ensures .meets g b))
-    (regrown s (c .read-enclosed .result) _ _ _ _ _ _ (c .read-enclosed .ensures .grown) (omega arith) (omega arith) (omega arith))
+    (regrown s (c .read-enclosed .result) _ _ _ _ _ _ (c .read-enclosed .ensures .grown) (omega arith))
 
 pub read-worded-reference-part-requires : (t : ℕ) → read-worded-lts.Need-reference-part-requires (read-worded-claims t) (read-worded-at t) read-worded.Post
 read-worded-reference-part-requires t c κs =

@@ -47,7 +47,8 @@ enum-told c =
 
 returns : tie.Need-returns
 returns c =
-    let skipped = c .before .before .before .before .before .before .before .before in
+    let tested = c .before .before .before .before .before .before in
+    let skipped = tested .before .before in
     let a = skipped .before .before .before .args in
     let s = a .s .now in
     let rs = entries (a .text .now) (a .d) in
@@ -59,19 +60,20 @@ returns c =
     let answer = rw (close .1) at (call .ensures) in
     let growth = answer .grown in
     aimed (c .addressed-place .result) (memoryAt rs s (a .end)) (ofAddress s x) s (record { place = 0; words = a .words; pieces = a .pieces }) (q + 1) (a .code .now) code
-    (opens rs s (a .end) q _ (skipped .skip-spaces .ensures) (c .before .before .before .before .before .before .before .byte .ensures) (c .before .before .before .before .before .before .if1 .taken))
+    (opens rs s (a .end) q _ (skipped .skip-spaces .ensures) (tested .before .byte .ensures) (tested .if1 .taken))
     (c .addressed-place .ensures x (close .0 .1 .0) (a .code .now) code (omega (arith, growth)) (omega (arith, growth)) (answer .meets (fuel s) (omega arith)))
 
 returns-2 : tie.Need-returns-2
 returns-2 c =
-    let skipped = c .before .before .before .before .before .before in
+    let tested = c .before .before .before .before in
+    let skipped = tested .before .before in
     let a = skipped .before .before .before .args in
     let s = a .s .now in
     let rs = entries (a .text .now) (a .d) in
     let q = skipped .skip-spaces .result in
     let call = c .before .before .read-level in
     let answer = rw (c .enum-told .given .1) at (call .ensures) in
-    opens rs s (a .end) q _ (skipped .skip-spaces .ensures) (c .before .before .before .before .before .byte .ensures) (c .before .before .before .before .if1 .taken)
+    opens rs s (a .end) q _ (skipped .skip-spaces .ensures) (tested .before .byte .ensures) (tested .if1 .taken)
     ∙ address-fault s (level (fuel s) rs s 0 weakest (q + 1)) (record { place = q + 1; words = a .words; pieces = a .pieces }) (a .code .now) (call .last .1 .1 .1 .0) (answer .meets (fuel s) (omega arith))
 
 returns-3 : tie.Need-returns-3

@@ -3,6 +3,7 @@ use mathlib.Core.Path.{sym, _∙_}
 use native.Mathlib.Omega.{arith}
 use Rattle.names.specs.Names.{entries}
 use Rattle.characters.specs.declared.Class.the-variants as class
+use Rattle.code.specs.declared.Cursor.{Cursor}
 use Rattle.characters.proofs.Runs.{within}
 use Rattle.expression.specs.Expression.{memoryAt, ofName, destination}
 use Rattle.expression.proofs.Destinations.{aimed, pointed, to-memory, to-name, not-trimmed}
@@ -39,14 +40,17 @@ memory-place-requires c κs =
 
 returns : tie.Need-returns
 returns c =
-    let ended = c .before .before .before .before .before .before in
+    let token = c .before .before .before .before .before in
+    let ended = token .before in
     let tested = ended .before in
     let a = tested .before .before .before .before .args in
     let s = a .s .now in
     let rs = entries (a .text .now) (a .d) in
+    let from : Cursor = record { place = 0; words = a .words; pieces = a .pieces } in
+    let memory = sym (c .before .before .before .is-same .ensures) ∙ c .before .before .if2 .taken in
     let trims = sym (tested .before .is-trimmed .ensures) ∙ tested .if1 .taken in
-    aimed (c .memory-place .result) (destination rs s) (memoryAt rs s (ended .run-end .result)) s (record { place = 0; words = a .words; pieces = a .pieces }) 0 (a .code .now) (c .memory-place .last .1 .1 .1 .0)
-    (to-memory rs s trims _ _ (ended .run-end .ensures) (c .before .before .before .before .before .part .ensures) (sym (c .before .before .before .is-same .ensures) ∙ c .before .before .if2 .taken))
+    aimed (c .memory-place .result) (destination rs s) (memoryAt rs s (ended .run-end .result)) s from 0 (a .code .now) (c .memory-place .last .1 .1 .1 .0)
+    (to-memory rs s trims _ _ (ended .run-end .ensures) (token .part .ensures) memory)
     (c .memory-place .ensures)
 
 reference-at-requires : tie.Need-reference-at-requires
@@ -59,14 +63,17 @@ named-place-requires c κs =
 
 returns-2 : tie.Need-returns-2
 returns-2 c =
-    let ended = c .before .before .before .before .before .before in
+    let token = c .before .before .before .before .before in
+    let ended = token .before in
     let tested = ended .before in
     let a = tested .before .before .before .before .args in
     let s = a .s .now in
     let rs = entries (a .text .now) (a .d) in
+    let from : Cursor = record { place = 0; words = a .words; pieces = a .pieces } in
+    let memory = sym (c .before .before .before .is-same .ensures) ∙ c .before .before .if2 .left in
     let trims = sym (tested .before .is-trimmed .ensures) ∙ tested .if1 .taken in
-    pointed (c .named-place .result) (destination rs s) (ofName s (c .before .reference-at .result)) s (record { place = 0; words = a .words; pieces = a .pieces }) (a .code .now)
-    (to-name rs s trims _ _ (ended .run-end .ensures) (c .before .before .before .before .before .part .ensures) (sym (c .before .before .before .is-same .ensures) ∙ c .before .before .if2 .left) _ (c .before .reference-at .ensures))
+    pointed (c .named-place .result) (destination rs s) (ofName s (c .before .reference-at .result)) s from (a .code .now)
+    (to-name rs s trims _ _ (ended .run-end .ensures) (token .part .ensures) memory _ (c .before .reference-at .ensures))
     (c .named-place .ensures)
 
 returns-3 : tie.Need-returns-3

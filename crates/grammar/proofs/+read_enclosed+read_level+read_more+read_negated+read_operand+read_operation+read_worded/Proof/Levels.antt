@@ -89,7 +89,10 @@ read-level-returns-2 t c =
     let growth = answer .grown in
     let weaker : k < strongest = omega (arith, called .pre, tested .if1 .left, ap (λ (e : Entry). e .strength) (tested .before .entry-in .ensures)) in
     answered (calls s p (9 - (k + 1))) (λ g. more g rs s d k (level g rs s d (k + 1) p)) (omega arith) (level-more rs s d k p weaker)
-    (λ g b. feed rs s d k g (level g rs s d (k + 1) p) (left .0 .0) (left .0 .1 .0) _ _ _ _ _ (λ l q e. c .read-more .ensures .meets l q _ _ e g (omega (arith, growth, b))) (answer .meets g b))
+    (λ g b.
+    feed rs s d k g (level g rs s d (k + 1) p) (left .0 .0) (left .0 .1 .0) _ _ _ _ _
+    (λ l q e. c .read-more .ensures .meets l q _ _ e g (omega (arith, growth, b)))
+    (answer .meets g b))
     (regrown s (c .read-more .result) _ _ _ _ _ _ (c .read-more .ensures .grown) (omega (arith, growth)))
 
 pub read-level-returns-3 : (t : ℕ) → read-level-lts.Need-returns-3 (read-level-claims t) (read-level-at t) read-level.Post
@@ -136,7 +139,8 @@ pub read-more-read-operation-requires : (t : ℕ) → read-more-lts.Need-read-op
 read-more-read-operation-requires t c κs =
     let h = c .before .before .before .before .before .before .before .pre in
     let limits = h .1 .1 .1 in
-    let strength = ap (λ (e : Entry). e .strength) (c .before .before .before .entry-in .ensures) ∙ ap (λ (r : ℕ). entryIn r .strength) (c .before .before .before .before .operator-at .ensures) in
+    let entered = c .before .before .before in
+    let strength = ap (λ (e : Entry). e .strength) (entered .entry-in .ensures) ∙ ap (λ (r : ℕ). entryIn r .strength) (entered .before .operator-at .ensures) in
     (omega (arith, h .0), (h .1 .0, (h .1 .1 .0, ((limits .0, limits .1 .0), (limits .1 .1, sym strength ∙ c .before .if1 .left)))))
 
 pub read-more-enum-known-next : (t : ℕ) → read-more-lts.Need-enum-known-next (read-more-claims t) (read-more-at t) read-more.Post
@@ -221,10 +225,12 @@ read-operation-returns t c =
     let k = a .strength in
     let p = a .left .place in
     let row = ended .before .operator-at .result in
+    let stands = ended .before .operator-at .ensures in
     let end = ended .operator-end .result in
     let ends = ended .operator-end .ensures in
+    let turns = c .before .before .if1 .taken ∙ ap (λ (e : Entry). e .strength) (c .before .before .before .entry-in .ensures) in
     answered-behind 0 (λ g l. turned row l (decimalAt s (skip s end))) (omega arith)
-    (λ l. operation-turns rs s d k l p row (ended .before .operator-at .ensures) end ends (c .before .before .if1 .taken ∙ ap (λ (e : Entry). e .strength) (c .before .before .before .entry-in .ensures)))
+    (λ l. operation-turns rs s d k l p row stands end ends turns)
     (λ l from before h g b. c .rotated-part .ensures .meets l p from before h 0 (omega arith))
     (regrown s (c .rotated-part .result) _ _ _ _ _ _ (c .rotated-part .ensures .grown) (omega arith))
 
@@ -269,16 +275,19 @@ read-operation-returns-2 t c =
     let k = a .strength in
     let p = a .left .place in
     let row = ended .before .operator-at .result in
+    let stands = ended .before .operator-at .ensures in
     let end = ended .operator-end .result in
     let ends = ended .operator-end .ensures in
     let tested = c .before .before .before .before .before .before .before in
     let right = c .before .before .before .right .given in
     let answer = rw (right .1) at (c .before .before .before .before .before .read-level .ensures) in
     let growth = answer .grown in
+    let rotations-are = ap (λ (e : Entry). e .strength) (tested .before .entry-in .ensures) in
+    let one-more = grown-by-one s (right .0 .0) (right .0 .1 .0) _ _ _ (c .joined-part .result) growth (c .joined-part .ensures .one-more) in
     answered-behind (calls s end (9 - (k + 1))) (λ g l. joined row l (level g rs s d (k + 1) end)) (omega arith)
-    (λ l. operation-joins rs s d k l p row (ended .before .operator-at .ensures) end ends (λ i. tested .if1 .left (i ∙ sym (ap (λ (e : Entry). e .strength) (tested .before .entry-in .ensures)))))
+    (λ l. operation-joins rs s d k l p row stands end ends (λ i. tested .if1 .left (i ∙ sym rotations-are)))
     (λ l from before h g b. c .joined-part .ensures .meets l (level g rs s d (k + 1) end) p end from before (a .code .now) h (answer .meets g b))
-    (regrown s (c .joined-part .result) _ _ _ _ _ _ (grown-by-one s (right .0 .0) (right .0 .1 .0) _ _ _ (c .joined-part .result) growth (c .joined-part .ensures .one-more)) (omega arith))
+    (regrown s (c .joined-part .result) _ _ _ _ _ _ one-more (omega arith))
 
 pub read-operation-returns-3 : (t : ℕ) → read-operation-lts.Need-returns-3 (read-operation-claims t) (read-operation-at t) read-operation.Post
 unfolding joined
@@ -293,11 +302,13 @@ read-operation-returns-3 t c =
     let k = a .strength in
     let p = a .left .place in
     let row = ended .before .operator-at .result in
+    let stands = ended .before .operator-at .ensures in
     let end = ended .operator-end .result in
     let ends = ended .operator-end .ensures in
     let tested = c .before .before .before .before in
     let answer = rw (c .enum-told .given .1) at (c .before .before .read-level .ensures) in
+    let rotations-are = ap (λ (e : Entry). e .strength) (tested .before .entry-in .ensures) in
     answered-behind (calls s end (9 - (k + 1))) (λ g l. joined row l (level g rs s d (k + 1) end)) (omega arith)
-    (λ l. operation-joins rs s d k l p row (ended .before .operator-at .ensures) end ends (λ i. tested .if1 .left (i ∙ sym (ap (λ (e : Entry). e .strength) (tested .before .entry-in .ensures)))))
+    (λ l. operation-joins rs s d k l p row stands end ends (λ i. tested .if1 .left (i ∙ sym rotations-are)))
     (λ l from before h g b. still-fault (joined row l) (level g rs s d (k + 1) end) _ from _ _ before _ refl (answer .meets g b))
     tt

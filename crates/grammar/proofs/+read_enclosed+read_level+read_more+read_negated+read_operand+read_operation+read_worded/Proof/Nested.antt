@@ -57,7 +57,8 @@ read-negated-returns t c =
     let rs = entries (a .text .now) (a .d) in
     let d = a .depth in
     let p = a .c .place in
-    let answer = rw (c .before .before .before .operand .given .1, c .before .before .before .before .before .before .before .entry-in .ensures) at (c .before .before .before .before .before .read-level .ensures) in
+    let call = c .before .before .before .before .before in
+    let answer = rw (c .before .before .before .operand .given .1, call .before .before .entry-in .ensures) at (call .read-level .ensures) in
     let growth = answer .grown in
     answered (calls s p 2) (λ g. notOf (level g rs s (d + 1) strongest p)) (omega arith) (negated-in rs s d p (tested .if1 .taken))
     (λ g b. c .complemented-part .ensures .meets (level g rs s (d + 1) strongest p) _ _ (answer .meets g b))

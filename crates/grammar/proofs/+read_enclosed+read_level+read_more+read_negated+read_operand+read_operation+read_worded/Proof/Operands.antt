@@ -53,7 +53,9 @@ read-operand-read-enclosed-requires t c κs =
     let called = skipped .before .before .before in
     let a = called .args in
     let inside = present (a .s .now) (skipped .skip-spaces .result) roundOpen (sym (c .before .before .byte .ensures) ∙ c .before .if1 .taken) (omega arith) in
-    omega (arith, called .pre, inside, skipped .skip-spaces .ensures, onward Space (a .s .now) (a .c .place), within Space (a .s .now) (a .c .place) (called .pre .1 .0 .place-in))
+    let forward = onward Space (a .s .now) (a .c .place) in
+    let fits = within Space (a .s .now) (a .c .place) (called .pre .1 .0 .place-in) in
+    omega (arith, called .pre, inside, skipped .skip-spaces .ensures, forward, fits)
 
 pub read-operand-returns : (t : ℕ) → read-operand-lts.Need-returns (read-operand-claims t) (read-operand-at t) read-operand.Post
 read-operand-returns t c =
@@ -83,18 +85,21 @@ read-operand-read-worded-requires t c κs =
     let called = skipped .before .before .before in
     let a = called .args in
     let start = skipped .skip-spaces .result in
+    let starts = skipped .skip-spaces .ensures in
     let letter = ap isLetter (sym (c .before .before .before .before .byte .ensures)) ∙ sym (c .before .before .is-letter .ensures) ∙ c .before .if2 .taken in
     let inside = letter-present (a .s .now) start (word-of-letter (getD (a .s .now) start 0) letter) in
     let forward = onward Space (a .s .now) (a .c .place) in
     let fits = within Space (a .s .now) (a .c .place) (called .pre .1 .0 .place-in) in
-    (omega (arith, called .pre, skipped .skip-spaces .ensures, forward, fits, inside), (omega (arith, called .pre, skipped .skip-spaces .ensures, forward, fits), (called .pre .1 .1, letter)))
+    (omega (arith, called .pre, starts, forward, fits, inside), (omega (arith, called .pre, starts, forward, fits), (called .pre .1 .1, letter)))
 
 pub read-operand-constant-part-requires : (t : ℕ) → read-operand-lts.Need-constant-part-requires (read-operand-claims t) (read-operand-at t) read-operand.Post
 read-operand-constant-part-requires t c κs =
     let skipped = c .before .before .before .before .before in
     let called = skipped .before .before .before in
     let a = called .args in
-    omega (arith, called .pre, skipped .skip-spaces .ensures, onward Space (a .s .now) (a .c .place), within Space (a .s .now) (a .c .place) (called .pre .1 .0 .place-in))
+    let forward = onward Space (a .s .now) (a .c .place) in
+    let fits = within Space (a .s .now) (a .c .place) (called .pre .1 .0 .place-in) in
+    omega (arith, called .pre, skipped .skip-spaces .ensures, forward, fits)
 
 pub read-operand-returns-2 : (t : ℕ) → read-operand-lts.Need-returns-2 (read-operand-claims t) (read-operand-at t) read-operand.Post
 read-operand-returns-2 t c =
@@ -164,7 +169,9 @@ read-worded-read-negated-requires t c κs =
 
 pub read-worded-returns : (t : ℕ) → read-worded-lts.Need-returns (read-worded-claims t) (read-worded-at t) read-worded.Post
 read-worded-returns t c =
-    let ended = c .before .before .before .before .before .before in
+    let negation = c .before .before in
+    let token = negation .before .before .before in
+    let ended = token .before in
     let called = ended .before .before .before in
     let a = called .args in
     let past = letters-past (a .s .now) (a .c .place) (ended .run-end .result) (called .pre .1 .1 .1) (ended .run-end .ensures) in
@@ -174,7 +181,7 @@ read-worded-returns t c =
     let p = a .c .place in
     let end = ended .run-end .result in
     answered (calls s end 3) (λ g. negated g rs s d end) (omega arith)
-    (worded-not rs s d p end _ (ended .run-end .ensures) (c .before .before .before .before .before .part .ensures) (sym (c .before .before .before .is-same .ensures) ∙ c .before .before .if1 .taken))
+    (worded-not rs s d p end _ (ended .run-end .ensures) (token .part .ensures) (sym (negation .before .is-same .ensures) ∙ negation .if1 .taken))
     (λ g b. moved (a .c) end (negated g rs s d end) _ _ _ (c .read-negated .ensures .meets g b))
     (regrown s (c .read-negated .result) _ _ _ _ _ _ (c .read-negated .ensures .grown) (omega arith))
 
@@ -193,7 +200,10 @@ read-worded-byte-requires t c κs = tt
 
 pub read-worded-returns-2 : (t : ℕ) → read-worded-lts.Need-returns-2 (read-worded-claims t) (read-worded-at t) read-worded.Post
 read-worded-returns-2 t c =
-    let ended = c .before .before .before .before .before .before .before .before .before .before in
+    let memory = c .before .before .before in
+    let negation = memory .before .before .before in
+    let token = negation .before .before .before in
+    let ended = token .before in
     let called = ended .before .before .before in
     let a = called .args in
     let past = letters-past (a .s .now) (a .c .place) (ended .run-end .result) (called .pre .1 .1 .1) (ended .run-end .ensures) in
@@ -201,16 +211,17 @@ read-worded-returns-2 t c =
     let rs = entries (a .text .now) (a .d) in
     let d = a .depth in
     let p = a .c .place in
-    let no = sym (c .before .before .before .before .before .before .before .is-same .ensures) ∙ c .before .before .before .before .before .before .if1 .left in
-    let memory = sym (c .before .before .before .before .is-same2 .ensures) ∙ c .before .before .before .if2 .taken in
+    let no = sym (negation .before .is-same .ensures) ∙ negation .if1 .left in
+    let yes = sym (memory .before .is-same2 .ensures) ∙ memory .if2 .taken in
     answered 0 (λ g. outside) (omega arith)
-    (worded-bare rs s d p _ _ (ended .run-end .ensures) (c .before .before .before .before .before .before .before .before .before .part .ensures) no memory _ _ (c .before .before .skip-spaces .ensures) (c .before .byte .ensures) (c .if3 .taken))
+    (worded-bare rs s d p _ _ (ended .run-end .ensures) (token .part .ensures) no yes _ _ (c .before .before .skip-spaces .ensures) (c .before .byte .ensures) (c .if3 .taken))
     (λ g b. tt)
     tt
 
 pub read-worded-add-t26 : (t : ℕ) → read-worded-lts.Need-add-t26 (read-worded-claims t) (read-worded-at t) read-worded.Post
 read-worded-add-t26 t c =
-    omega (arith, present (c .before .before .before .before .before .before .before .before .before .before .before .before .before .args .s .now) (c .before .before .skip-spaces .result) squareOpen (sym (c .before .byte .ensures) ∙ c .if3 .left) (omega arith))
+    let called = c .before .before .before .before .before .before .before .before .before .before .before .before .before in
+    omega (arith, present (called .args .s .now) (c .before .before .skip-spaces .result) squareOpen (sym (c .before .byte .ensures) ∙ c .if3 .left) (omega arith))
 
 pub read-worded-read-enclosed-requires : (t : ℕ) → read-worded-lts.Need-read-enclosed-requires (read-worded-claims t) (read-worded-at t) read-worded.Post
 read-worded-read-enclosed-requires t c κs =
@@ -224,7 +235,10 @@ read-worded-read-enclosed-requires t c κs =
 
 pub read-worded-returns-3 : (t : ℕ) → read-worded-lts.Need-returns-3 (read-worded-claims t) (read-worded-at t) read-worded.Post
 read-worded-returns-3 t c =
-    let ended = c .before .before .before .before .before .before .before .before .before .before .before .before in
+    let memory = c .before .before .before .before .before in
+    let negation = memory .before .before .before in
+    let token = negation .before .before .before in
+    let ended = token .before in
     let called = ended .before .before .before in
     let a = called .args in
     let past = letters-past (a .s .now) (a .c .place) (ended .run-end .result) (called .pre .1 .1 .1) (ended .run-end .ensures) in
@@ -232,15 +246,15 @@ read-worded-returns-3 t c =
     let rs = entries (a .text .now) (a .d) in
     let d = a .depth in
     let p = a .c .place in
-    let no = sym (c .before .before .before .before .before .before .before .before .before .is-same .ensures) ∙ c .before .before .before .before .before .before .before .before .if1 .left in
-    let memory = sym (c .before .before .before .before .before .before .is-same2 .ensures) ∙ c .before .before .before .before .before .if2 .taken in
+    let no = sym (negation .before .is-same .ensures) ∙ negation .if1 .left in
+    let yes = sym (memory .before .is-same2 .ensures) ∙ memory .if2 .taken in
     let start = c .before .before .before .before .skip-spaces .result in
     let starts = c .before .before .before .before .skip-spaces .ensures in
     let here = c .before .before .before .byte .ensures in
     let inside = present s start squareOpen (sym here ∙ c .before .before .if3 .left) (omega arith) in
     let forward = onward Space s (ended .run-end .result) in
     answered (calls s (start + 1) 9) (λ g. enclosed g rs s d squareClose (start + 1)) (omega arith)
-    (worded-memory rs s d p _ _ (ended .run-end .ensures) (c .before .before .before .before .before .before .before .before .before .before .before .part .ensures) no memory start _ starts here (c .before .before .if3 .left))
+    (worded-memory rs s d p _ _ (ended .run-end .ensures) (token .part .ensures) no yes start _ starts here (c .before .before .if3 .left))
     (λ g b. moved (a .c) (start + 1) (enclosed g rs s d squareClose (start + 1)) _ _ _ (c .read-enclosed .ensures .meets g b))
     (regrown s (c .read-enclosed .result) _ _ _ _ _ _ (c .read-enclosed .ensures .grown) (omega arith))
 
@@ -252,7 +266,10 @@ read-worded-reference-part-requires t c κs =
 
 pub read-worded-returns-4 : (t : ℕ) → read-worded-lts.Need-returns-4 (read-worded-claims t) (read-worded-at t) read-worded.Post
 read-worded-returns-4 t c =
-    let ended = c .before .before .before .before .before .before .before .before .before in
+    let memory = c .before .before in
+    let negation = memory .before .before .before in
+    let token = negation .before .before .before in
+    let ended = token .before in
     let called = ended .before .before .before in
     let a = called .args in
     let past = letters-past (a .s .now) (a .c .place) (ended .run-end .result) (called .pre .1 .1 .1) (ended .run-end .ensures) in
@@ -260,8 +277,8 @@ read-worded-returns-4 t c =
     let rs = entries (a .text .now) (a .d) in
     let d = a .depth in
     let p = a .c .place in
-    let no = sym (c .before .before .before .before .before .before .is-same .ensures) ∙ c .before .before .before .before .before .if1 .left in
+    let no = sym (negation .before .is-same .ensures) ∙ negation .if1 .left in
     answered 0 (λ g. ofReference (referenceAt rs s p)) (omega arith)
-    (worded-name rs s d p _ _ (ended .run-end .ensures) (c .before .before .before .before .before .before .before .before .part .ensures) no (sym (c .before .before .before .is-same2 .ensures) ∙ c .before .before .if2 .left))
+    (worded-name rs s d p _ _ (ended .run-end .ensures) (token .part .ensures) no (sym (memory .before .is-same2 .ensures) ∙ memory .if2 .left))
     (λ g b. c .reference-part .ensures .meets)
     (c .reference-part .ensures .grown)

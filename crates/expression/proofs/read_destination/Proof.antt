@@ -47,10 +47,10 @@ returns c =
     let s = a .s .now in
     let rs = entries (a .text .now) (a .d) in
     let from : Cursor = record { place = 0; words = a .words; pieces = a .pieces } in
-    let memory = sym (c .before .before .before .is-same .ensures) ∙ c .before .before .if2 .taken in
+    let is-memory = sym (c .before .before .before .is-same .ensures) ∙ c .before .before .if2 .taken in
     let trims = sym (tested .before .is-trimmed .ensures) ∙ tested .if1 .taken in
     aimed (c .memory-place .result) (destination rs s) (memoryAt rs s (ended .run-end .result)) s from 0 (a .code .now) (c .memory-place .last .1 .1 .1 .0)
-    (to-memory rs s trims _ _ (ended .run-end .ensures) (token .part .ensures) memory)
+    (to-memory rs s trims _ _ (ended .run-end .ensures) (token .part .ensures) is-memory)
     (c .memory-place .ensures)
 
 reference-at-requires : tie.Need-reference-at-requires
@@ -70,10 +70,10 @@ returns-2 c =
     let s = a .s .now in
     let rs = entries (a .text .now) (a .d) in
     let from : Cursor = record { place = 0; words = a .words; pieces = a .pieces } in
-    let memory = sym (c .before .before .before .is-same .ensures) ∙ c .before .before .if2 .left in
+    let no-memory = sym (c .before .before .before .is-same .ensures) ∙ c .before .before .if2 .left in
     let trims = sym (tested .before .is-trimmed .ensures) ∙ tested .if1 .taken in
     pointed (c .named-place .result) (destination rs s) (ofName s (c .before .reference-at .result)) s from (a .code .now)
-    (to-name rs s trims _ _ (ended .run-end .ensures) (token .part .ensures) memory _ (c .before .reference-at .ensures))
+    (to-name rs s trims _ _ (ended .run-end .ensures) (token .part .ensures) no-memory _ (c .before .reference-at .ensures))
     (c .named-place .ensures)
 
 returns-3 : tie.Need-returns-3

@@ -211,10 +211,10 @@ read-worded-returns-2 t c =
     let rs = entries (a .text .now) (a .d) in
     let d = a .depth in
     let p = a .c .place in
-    let no = sym (negation .before .is-same .ensures) ∙ negation .if1 .left in
-    let yes = sym (memory .before .is-same2 .ensures) ∙ memory .if2 .taken in
+    let no-not = sym (negation .before .is-same .ensures) ∙ negation .if1 .left in
+    let is-memory = sym (memory .before .is-same2 .ensures) ∙ memory .if2 .taken in
     answered 0 (λ g. outside) (omega arith)
-    (worded-bare rs s d p _ _ (ended .run-end .ensures) (token .part .ensures) no yes _ _ (c .before .before .skip-spaces .ensures) (c .before .byte .ensures) (c .if3 .taken))
+    (worded-bare rs s d p _ _ (ended .run-end .ensures) (token .part .ensures) no-not is-memory _ _ (c .before .before .skip-spaces .ensures) (c .before .byte .ensures) (c .if3 .taken))
     (λ g b. tt)
     tt
 
@@ -246,15 +246,15 @@ read-worded-returns-3 t c =
     let rs = entries (a .text .now) (a .d) in
     let d = a .depth in
     let p = a .c .place in
-    let no = sym (negation .before .is-same .ensures) ∙ negation .if1 .left in
-    let yes = sym (memory .before .is-same2 .ensures) ∙ memory .if2 .taken in
+    let no-not = sym (negation .before .is-same .ensures) ∙ negation .if1 .left in
+    let is-memory = sym (memory .before .is-same2 .ensures) ∙ memory .if2 .taken in
     let start = c .before .before .before .before .skip-spaces .result in
     let starts = c .before .before .before .before .skip-spaces .ensures in
     let here = c .before .before .before .byte .ensures in
     let inside = present s start squareOpen (sym here ∙ c .before .before .if3 .left) (omega arith) in
     let forward = onward Space s (ended .run-end .result) in
     answered (calls s (start + 1) 9) (λ g. enclosed g rs s d squareClose (start + 1)) (omega arith)
-    (worded-memory rs s d p _ _ (ended .run-end .ensures) (token .part .ensures) no yes start _ starts here (c .before .before .if3 .left))
+    (worded-memory rs s d p _ _ (ended .run-end .ensures) (token .part .ensures) no-not is-memory start _ starts here (c .before .before .if3 .left))
     (λ g b. moved (a .c) (start + 1) (enclosed g rs s d squareClose (start + 1)) _ _ _ (c .read-enclosed .ensures .meets g b))
     (regrown s (c .read-enclosed .result) _ _ _ _ _ _ (c .read-enclosed .ensures .grown) (omega arith))
 
@@ -277,8 +277,8 @@ read-worded-returns-4 t c =
     let rs = entries (a .text .now) (a .d) in
     let d = a .depth in
     let p = a .c .place in
-    let no = sym (negation .before .is-same .ensures) ∙ negation .if1 .left in
+    let no-not = sym (negation .before .is-same .ensures) ∙ negation .if1 .left in
     answered 0 (λ g. ofReference (referenceAt rs s p)) (omega arith)
-    (worded-name rs s d p _ _ (ended .run-end .ensures) (token .part .ensures) no (sym (memory .before .is-same2 .ensures) ∙ memory .if2 .left))
+    (worded-name rs s d p _ _ (ended .run-end .ensures) (token .part .ensures) no-not (sym (memory .before .is-same2 .ensures) ∙ memory .if2 .left))
     (λ g b. c .reference-part .ensures .meets)
     (c .reference-part .ensures .grown)

@@ -1,6 +1,6 @@
 -- The functions that read an operand: any one, and one that begins with a letter.
 -- Assumes nothing.
-use mathlib.Core.Path.{sym, ap, _∙_}
+use mathlib.Core.Path.{refl, sym, ap, _∙_}
 use Prim.Native.Nat.{ℕ, _+_}
 use native.Mathlib.Omega.{arith}
 use borrow.Author.Needs.{needs}
@@ -11,12 +11,12 @@ use Rattle.grammar.specs.Grammar.{roundOpen, roundClose, squareOpen, squ
 use Rattle.code.specs.Readings.{outside, ofConstant, ofReference}
 use Rattle.grammar.specs.Met.{calls}
 use Rattle.grammar.proofs.Calls.{answered, regrown, moved, operand-encloses, operand-worded, operand-constant, worded-not, worded-memory, worded-bare, worded-name}
-use Rattle.characters.specs.Characters.{isLetter}
+use Rattle.characters.specs.Characters.{isLetter, runEnd}
 use Rattle.constants.specs.Constants.{constantAt}
 use Rattle.characters.specs.declared.Class.the-variants.{Space, Word}
 use Rattle.characters.proofs.Runs.{onward, within, after-start}
 use Rattle.tokens.proofs.Tokens.{present}
-use Rattle.bit_parts.proofs.Onward.{letters-past, letter-present, word-of-letter}
+use Rattle.bit_parts.proofs.Onward.{letters-past, word-of-letter}
 use Rattle.grammar.proofs.read_enclosed.Reads as read-enclosed
 use Rattle.grammar.proofs.read_negated.Reads as read-negated
 use Rattle.grammar.proofs.read_operand.Reads as read-operand
@@ -87,7 +87,7 @@ read-operand-read-worded-requires t c κs =
     let start = skipped .skip-spaces .result in
     let starts = skipped .skip-spaces .ensures in
     let letter = ap isLetter (sym (c .before .before .before .before .byte .ensures)) ∙ sym (c .before .before .is-letter .ensures) ∙ c .before .if2 .taken in
-    let inside = letter-present (a .s .now) start (word-of-letter (getD (a .s .now) start 0) letter) in
+    let inside = letters-past (a .s .now) start (runEnd Word (a .s .now) start) letter refl in
     let forward = onward Space (a .s .now) (a .c .place) in
     let fits = within Space (a .s .now) (a .c .place) (called .pre .1 .0 .place-in) in
     (omega (arith, called .pre, starts, forward, fits, inside), (omega (arith, called .pre, starts, forward, fits), (called .pre .1 .1, letter)))

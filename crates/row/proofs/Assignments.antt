@@ -2,117 +2,83 @@
 -- Assumes nothing.
 use mathlib.Core.Path.{_≡_, refl, sym, ap, subst, _∙_}
 use mathlib.Core.Bool.{true, false}
-use mathlib.Core.List.{List, _++_}
-use Prim.Native.Nat.{ℕ, _+_, _-_, _*_}
-use native.Mathlib.Nat.{add-zero}
+use mathlib.Core.List.{List, [], _++_}
+use Prim.Native.Nat.{ℕ, _+_, _*_, _≤_}
 use native.Mathlib.Omega.{arith}
 use lib.ListN.{length, length-append}
 use lib.Seq.{sets}
 use Rattle.fields.specs.Fields.{field}
 use Rattle.names.specs.Names.{Named}
 use Rattle.code.specs.declared.Cursor.{Cursor}
-use Rattle.code.specs.Tree.{Expr, pieces, Destination, toRegister, toPart, nowhere}
+use Rattle.code.specs.Tree.{Expr, Destination, toRegister, toPart, toMemory}
 use Rattle.code.specs.Code.{codeOf}
 use Rattle.code.specs.Readings.{Reading, read, outside}
 use Rattle.expression.specs.Expression.{expression, destination}
 use Rattle.code.specs.Met.{Held}
-use Rattle.expression.specs.Met.{Address, Aims}
+use Rattle.expression.specs.Met.{Aims}
 use Rattle.expression.specs.declared.Place.{Place}
 use Rattle.expression.specs.declared.Place.the-variants.{Register, Bits, Word, Nowhere}
 use Rattle.expression.proofs.Formed.{ordered}
 use Rattle.code.proofs.Stores.{sets-behind}
-use Rattle.declaration.specs.Rows.{Row, does}
+use Rattle.declaration.specs.Rows.{Row, does, addressPieces}
 use Rattle.row.specs.declared.cells.Aim.{Aim}
 use Rattle.row.specs.declared.actions.RowRead.{RowRead}
 use Rattle.row.specs.Lines.{isSomewhere, formed, unformed, doRow}
-use Rattle.row.specs.Cells.{addressCode, rowCode, cellsOf, doCells}
+use Rattle.row.specs.Cells.{addressCode, rowCode, kindOf, registerOf, rightOf, sizeOf, cellsOf, doCells}
 use Rattle.row.specs.Stored.{Aiming, Aimed, HasRow, InOrder, aimOf}
 use Rattle.row.proofs.RowLines.{ReadAs, not-so}
 
--- a register or a bit part needs no words
+-- the cells of a destination whose address reaches to end
+abbrev cells-of : Destination → Cursor → Aim
+cells-of d end = record { kind = kindOf d; register = registerOf d; right = rightOf d; size = sizeOf d; end = end; found = true }
+
 module _ (x : Destination) (s : List ℕ) (from : Cursor) (now after : List ℕ) where
-  aim-register : (r w : ℕ) → x ≡ toRegister r w → after ≡ now
-      → Aimed x s (record { kind = 0; register = r; right = 0; size = w; end = from; found = true }) from now after
-  aim-register r w e f =
-      subst (λ (d : Destination). Aimed d s (record { kind = 0; register = r; right = 0; size = w; end = from; found = true }) from now after) (sym e)
+  -- a destination whose address has its pieces and words behind those before it
+  aims-at : (d : Destination) (end : Cursor) → x ≡ d → isSomewhere d ≡ true → end .pieces ≡ from .pieces + addressPieces d
+      → 4 * end .words ≡ 4 * from .words + length (addressCode d) → after ≡ sets now (4 * from .words) (addressCode d)
+      → end .words ≤ from .words + length s → end .pieces ≤ from .pieces + length s
+      → Aimed x s (cells-of d end) from now after
+  aims-at d end e somewhere counted reached stored few-words few-pieces =
+      subst (λ (z : Destination). Aimed z s (cells-of d end) from now after) (sym e)
       (record {
         aims = λ k.
             record {
-              somewhere = refl;
+              somewhere = somewhere;
               kind-is = refl;
               register-is = refl;
               right-is = refl;
               size-is = refl;
-              pieces-are = sym (add-zero (from .pieces));
-              words-are = sym (add-zero (4 * from .words));
-              code-is = f;
-              words-few = omega arith;
-              pieces-few = omega arith;
+              pieces-are = counted;
+              words-are = reached;
+              code-is = stored;
+              words-few = few-words;
+              pieces-few = few-pieces;
             };
         misses = λ k. not-so true refl k;
       })
 
-  aim-part : (r w a b : ℕ) → x ≡ toPart r w a b → after ≡ now
-      → Aimed x s (record { kind = 1; register = r; right = w - 1 - b; size = b - a + 1; end = from; found = true }) from now after
-  aim-part r w a b e f =
-      subst (λ (d : Destination). Aimed d s (record { kind = 1; register = r; right = w - 1 - b; size = b - a + 1; end = from; found = true }) from now after) (sym e)
-      (record {
-        aims = λ k.
-            record {
-              somewhere = refl;
-              kind-is = refl;
-              register-is = refl;
-              right-is = refl;
-              size-is = refl;
-              pieces-are = sym (add-zero (from .pieces));
-              words-are = sym (add-zero (4 * from .words));
-              code-is = f;
-              words-few = omega arith;
-              pieces-few = omega arith;
-            };
-        misses = λ k. not-so true refl k;
-      })
-
-  aim-memory : (end : Cursor) → Address x s end (record { place = 0; words = from .words; pieces = from .pieces }) now after
-      → Aimed x s (record { kind = 2; register = 0; right = 0; size = 0; end = end; found = true }) from now after
-  aim-memory end a =
-      subst (λ (d : Destination). Aimed d s (record { kind = 2; register = 0; right = 0; size = 0; end = end; found = true }) from now after) (sym (a .is))
-      (record {
-        aims = λ k.
-            record {
-              somewhere = refl;
-              kind-is = refl;
-              register-is = refl;
-              right-is = refl;
-              size-is = refl;
-              pieces-are = a .pieces-are;
-              words-are = a .words-are;
-              code-is = a .code-is;
-              words-few = a .words-few;
-              pieces-few = a .pieces-few;
-            };
-        misses = λ k. not-so true refl k;
-      })
-
-  aim-nowhere : x ≡ nowhere → Aimed x s (record { kind = 0; register = 0; right = 0; size = 0; end = from; found = false }) from now after
-  aim-nowhere e =
-      subst (λ (d : Destination). Aimed d s (record { kind = 0; register = 0; right = 0; size = 0; end = from; found = false }) from now after) (sym e)
-      (record { aims = λ k. not-so false k refl; misses = λ k. refl })
+  -- a register or a bit part has no address
+  aims-plain : (d : Destination) → x ≡ d → isSomewhere d ≡ true → addressPieces d ≡ 0 → addressCode d ≡ [] → after ≡ now
+      → Aimed x s (cells-of d from) from now after
+  aims-plain d e somewhere no-pieces no-words same =
+      aims-at d from e somewhere (omega (arith, no-pieces)) (omega (arith, ap length no-words))
+      (same ∙ ap (sets now (4 * from .words)) (sym no-words)) (omega arith) (omega arith)
 
   -- the cells of a place are those of its destination
   pub aimed : (p : Place) → Aims p x s (record { place = 0; words = from .words; pieces = from .pieces }) now after → Aimed x s (aimOf p from) from now after
-  aimed (Register r w) y = aim-register r w (y .0) (y .1)
-  aimed (Bits r w a b) y = aim-part r w a b (y .0) (y .1)
-  aimed (Word c) y = aim-memory c y
-  aimed Nowhere y = aim-nowhere y
+  aimed (Register r w) y = aims-plain (toRegister r w) (y .0) refl refl refl (y .1)
+  aimed (Bits r w a b) y = aims-plain (toPart r w a b) (y .0) refl refl refl (y .1)
+  aimed (Word c) y = aims-at (toMemory (y .tree)) c (y .is) refl (y .pieces-are) (y .words-are) (y .code-is) (y .words-few) (y .pieces-few)
+  aimed Nowhere y = record { aims = λ k. not-so false k refl; misses = λ k. ap isSomewhere y }
 
+-- the bits of a part that was read stand in their order
 pub in-order : (rs : List Named) (s : List ℕ) (from : Cursor) (now after : List ℕ) (p : Place) → Aims p (destination rs s) s from now after → InOrder p
 in-order rs s from now after (Register r w) y = tt
 in-order rs s from now after (Bits r w a b) y = ordered rs s r w a b (y .0)
 in-order rs s from now after (Word c) y = tt
 in-order rs s from now after Nowhere y = tt
 
--- the row of a `do` line
+-- the row of a `do` line, and what is missing where there is none
 module _ (c e : Expr) (x y : ℕ) (d : Destination) where
   row-formed : isSomewhere d ≡ true → doRow (read c x) d (read e y) ≡ formed (does c d e)
   unfolding doRow
@@ -138,13 +104,15 @@ no-condition d v w e = rw e
 -- condition, address and value, one behind the other
 module _ (c : Expr) (x w : ℕ) (from condition : Cursor) (before now : List ℕ) (h : Held c x condition w from before now)
     (d : Destination) (s : List ℕ) (aim : Aim) (mid : List ℕ) (a : Aiming d s aim condition now mid)
-    (v : Reading) (end : Cursor) (u : ℕ) (after : List ℕ) (at : ℕ) (k : ReadAs v end u (record { place = at; words = aim .end .words; pieces = aim .end .pieces }) mid after) where
+    (v : Reading) (end : Cursor) (u : ℕ) (after : List ℕ) (at : ℕ)
+    (k : ReadAs v end u (record { place = at; words = aim .end .words; pieces = aim .end .pieces }) mid after) where
   abbrev row : Row
   row = does c d (k .tree)
 
   words : 4 * end .words ≡ 4 * from .words + length (rowCode row)
   words =
-      omega (arith, h .words-are, a .words-are, k .held .words-are, length-append (codeOf c) (addressCode d ++ codeOf (k .tree)), length-append (addressCode d) (codeOf (k .tree)))
+      let all = length-append (codeOf c) (addressCode d ++ codeOf (k .tree)) in
+      omega (arith, h .words-are, a .words-are, k .held .words-are, all, length-append (addressCode d) (codeOf (k .tree)))
 
   stored : after ≡ sets before (4 * from .words) (rowCode row)
   stored =
@@ -173,14 +141,17 @@ module _ (c : Expr) (x w : ℕ) (from condition : Cursor) (before now : List ℕ
 
 -- fields that the code holds
 module _ (rs : List Named) (s : List ℕ) (r : RowRead) (from : Cursor) (before after : List ℕ) where
-  pub with-fields : (c : Expr) (x : ℕ) (f g : List ℕ) → f ≡ field 2 s → g ≡ field 3 s → HasRow (doRow (read c x) (destination rs f) (expression rs g)) r from before after
+  pub with-fields : (c : Expr) (x : ℕ) (f g : List ℕ) → f ≡ field 2 s → g ≡ field 3 s
+      → HasRow (doRow (read c x) (destination rs f) (expression rs g)) r from before after
       → HasRow (doRow (read c x) (destination rs (field 2 s)) (expression rs (field 3 s))) r from before after
   with-fields c x f g e i h = rw (← e, ← i) h
 
-  pub with-condition : (c : Expr) (x : ℕ) (f : List ℕ) (d : Destination) (v : Reading) → f ≡ field 1 s → expression rs f ≡ read c x → HasRow (doRow (read c x) d v) r from before after
+  pub with-condition : (c : Expr) (x : ℕ) (f : List ℕ) (d : Destination) (v : Reading) → f ≡ field 1 s → expression rs f ≡ read c x
+      → HasRow (doRow (read c x) d v) r from before after
       → HasRow (doRow (expression rs (field 1 s)) d v) r from before after
   with-condition c x f d v e i h = rw (← e, i) h
 
-  pub without-row : (c : Expr) (x : ℕ) (f : List ℕ) (d : Destination) (v : Reading) → f ≡ field 1 s → expression rs f ≡ read c x → doRow (read c x) d v ≡ unformed
+  pub without-row : (c : Expr) (x : ℕ) (f : List ℕ) (d : Destination) (v : Reading) → f ≡ field 1 s → expression rs f ≡ read c x
+      → doRow (read c x) d v ≡ unformed
       → doRow (expression rs (field 1 s)) d v ≡ unformed
   without-row c x f d v e i h = rw (← e, i) h

@@ -16,7 +16,7 @@ use Rattle.names.specs.Names.{entries, isName}
 use Rattle.characters.proofs.Tests.{by-test, and-left, and-right}
 use Rattle.code.specs.declared.Cursor.{Cursor}
 use Rattle.code.specs.declared.Part.the-variants.{Found}
-use Rattle.code.specs.Tree.{Expr, pieces}
+use Rattle.code.specs.Tree.{Expr}
 use Rattle.code.specs.Readings.{Reading, read, outside}
 use Rattle.expression.specs.Expression.{expression, destination}
 use Rattle.code.specs.Met.{Held, Meets}
@@ -48,14 +48,16 @@ not-goes f e = absurd (mathlib.Core.Bool.false≢true (ap isGoes e))
 
 -- a refused line leaves nothing to say of the tables
 pub takes-refused : (text : List ℕ) (g : Progress → Step) (q : code.Progress) (f : Fault) (r : taken.Step) {code₁ code₂ table₁ table₂ : List ℕ}
-    → r ≡ record { progress = q; status = Refused f } → ((rs : List Row) → g (progressOf text q rs) ≡ refused f) → Within q → Takes text g q r code₁ code₂ table₁ table₂
+    → r ≡ record { progress = q; status = Refused f } → ((rs : List Row) → g (progressOf text q rs) ≡ refused f) → Within q
+    → Takes text g q r code₁ code₂ table₁ table₂
 takes-refused text g q f r {code₁} {code₂} {table₁} {table₂} e is h =
     subst (λ (x : taken.Step). Takes text g q x code₁ code₂ table₁ table₂) (sym e)
     (record { comes = λ rs code₀ table₀ t. record { rows = rs; is = is rs; holds = λ k. not-goes f k }; within = h })
 
 -- a line whose definition says the same
 pub takes-as : (text : List ℕ) (f g : Progress → Step) (q : code.Progress) (r : taken.Step) {code₁ code₂ table₁ table₂ : List ℕ}
-    → ((rs : List Row) → f (progressOf text q rs) ≡ g (progressOf text q rs)) → Takes text g q r code₁ code₂ table₁ table₂ → Takes text f q r code₁ code₂ table₁ table₂
+    → ((rs : List Row) → f (progressOf text q rs) ≡ g (progressOf text q rs)) → Takes text g q r code₁ code₂ table₁ table₂
+    → Takes text f q r code₁ code₂ table₁ table₂
 takes-as text f g q r {code₁} {code₂} {table₁} {table₂} e p =
     record {
       comes = λ rs code₀ table₀ t.
@@ -65,7 +67,8 @@ takes-as text f g q r {code₁} {code₂} {table₁} {table₂} e p =
     }
 
 -- a line that adds no row leaves the tables
-pub takes-plain : (text : List ℕ) (g : Progress → Step) (q : code.Progress) (r : taken.Step) {code₁ table₁ : List ℕ} → Plain text g q r → Takes text g q r code₁ code₁ table₁ table₁
+pub takes-plain : (text : List ℕ) (g : Progress → Step) (q : code.Progress) (r : taken.Step) {code₁ table₁ : List ℕ} → Plain text g q r
+    → Takes text g q r code₁ code₁ table₁ table₁
 takes-plain text g q r {code₁} {table₁} p =
     record {
       comes = λ rs code₀ table₀ t.
@@ -83,6 +86,7 @@ takes-plain text g q r {code₁} {table₁} p =
       within = p .within;
     }
 
+-- a row more, where there is room for it
 module _ (p : Progress) (row : Row) (gone : ℕ) where
   abbrev fits : Bool
   fits = ltb (length (p .rows)) mostRows && leb (p .pieces + rowPieces row) allPieces
@@ -133,7 +137,8 @@ module _ (text : List ℕ) (q : code.Progress) (h : Within q) (row : Row) (cs : 
             row-added (progressOf text q rs) row gone (row-room rs t ∙ u)
             ∙ ap
             (λ (n : ℕ).
-            next (record { registers = entries text (q .registers); labels = entries text (q .labels); rows = rs ++ (row ∷ []); pieces = n; begun = true; missing = gone }))
+            next
+            (record { registers = entries text (q .registers); labels = entries text (q .labels); rows = rs ++ (row ∷ []); pieces = n; begun = true; missing = gone }))
             (sym (forms .pieces-are));
         holds = λ k.
             tables-more rs row t (forms .code-is) (forms .words-are)
@@ -178,10 +183,14 @@ pub read-as : (x : Reading) (end : Cursor) (w : ℕ) (from : Cursor) (now after 
 read-as (read t p) end w from now after m = record { tree = t; place = p; is = refl; held = m }
 read-as outside end w from now after m = absurd m
 
+-- where a `go` line's label stands in what is below it
+abbrev targetOf : List ℕ → List ℕ → Target
+targetOf line below = passes (field 2 line) (lines below)
+
 -- `go` lines
 module _ (p : Progress) (n : ℕ) (s below : List ℕ) where
   abbrev target : Target
-  target = passes (field 2 s) (lines below)
+  target = targetOf s below
 
   abbrev condition : Reading
   condition = expression (p .registers) (field 1 s)
@@ -194,7 +203,8 @@ module _ (p : Progress) (n : ℕ) (s below : List ℕ) where
   unfolding goLine
   go-malformed t = rw (t, goLine)
 
-  go-by : (l : List ℕ) (t : Target) (c : Expr) (x : ℕ) → isName l ≡ true → goRow p n l t (read c x) ≡ addRow p (goes c (rowsPassed t)) (missingAt t n (p .missing))
+  go-by : (l : List ℕ) (t : Target) (c : Expr) (x : ℕ) → isName l ≡ true
+      → goRow p n l t (read c x) ≡ addRow p (goes c (rowsPassed t)) (missingAt t n (p .missing))
   unfolding goRow
   go-by l t c x u = rw (u, goRow)
 
@@ -217,11 +227,11 @@ module _ (p : Progress) (n : ℕ) (s below : List ℕ) where
   go-unread t e = go-fields t ∙ ap (goRow p n (field 2 s) target) e ∙ go-faulty (field 2 s) target
 
 -- the cells of a `go` are those of its row
-go-forms : (q : code.Progress) (c : Expr) (x : ℕ) (end : Cursor) (w passed : ℕ) (cs now after : List ℕ) → Held c x end w (before q) now after → cs ≡ goCells (q .words) (end .words) passed
-    → Forming (goes c passed) cs end (before q) now after
-go-forms q c x end w passed cs now after h e =
+go-forms : (q : code.Progress) (c : Expr) (x : ℕ) (end : Cursor) (w passed : ℕ) (now after : List ℕ) → Held c x end w (before q) now after
+    → Forming (goes c passed) (goCells (q .words) (end .words) passed) end (before q) now after
+go-forms q c x end w passed now after h =
     record {
-      cells-are = e ∙ ap (λ (k : ℕ). 3 ∷ 4 * q .words ∷ k ∷ k ∷ k ∷ 0 ∷ 0 ∷ 0 ∷ passed ∷ []) (h .words-are);
+      cells-are = ap (λ (k : ℕ). 3 ∷ 4 * q .words ∷ k ∷ k ∷ k ∷ 0 ∷ 0 ∷ 0 ∷ passed ∷ []) (h .words-are);
       pieces-are = h .pieces-are;
       words-are = h .words-are;
       code-is = h .code-is;
@@ -230,28 +240,30 @@ go-forms q c x end w passed cs now after h e =
 -- a `go` line whose condition was read
 module _ (text : List ℕ) (q : code.Progress) (h : Within q) (n : ℕ) (line below f : List ℕ) (fields : hasFields 3 line ≡ true) (first : f ≡ field 1 line)
     (end : Cursor) (w : ℕ) (code₁ code₂ : List ℕ) (m : Meets (expression (entries text (q .registers)) f) (Found end w) (before q) code₁ code₂) where
-  abbrev k : ReadAs (expression (entries text (q .registers)) f) end w (before q) code₁ code₂
-  k = read-as (expression (entries text (q .registers)) f) end w (before q) code₁ code₂ m
+  abbrev found : ReadAs (expression (entries text (q .registers)) f) end w (before q) code₁ code₂
+  found = read-as (expression (entries text (q .registers)) f) end w (before q) code₁ code₂ m
 
-  condition-is : expression (entries text (q .registers)) (field 1 line) ≡ read (k .tree) (k .place)
-  condition-is = ap (expression (entries text (q .registers))) (sym first) ∙ k .is
+  condition-is : expression (entries text (q .registers)) (field 1 line) ≡ read (found .tree) (found .place)
+  condition-is = ap (expression (entries text (q .registers))) (sym first) ∙ found .is
 
-  abbrev target′ : Target
-  target′ = passes (field 2 line) (lines below)
+  abbrev passed : ℕ
+  passed = rowsPassed (targetOf line below)
+
+  abbrev gone : ℕ
+  gone = missingAt (targetOf line below) n (q .missing)
 
   pub go-jumps : (r : taken.Step) {table₁ table₂ : List ℕ} → Jumps q n (field 2 line) (lines below) end r table₁ table₂
       → Takes text (λ (p : Progress). goLine p n (lines below) line) q r code₁ code₂ table₁ table₂
   go-jumps r j =
       by-test (isName (field 2 line))
       (λ u.
-      takes-as text (λ (p : Progress). goLine p n (lines below) line) (λ (p : Progress). addRow p (goes (k .tree) (rowsPassed target′)) (missingAt target′ n (q .missing))) q r
-      (λ rs. go-taken (progressOf text q rs) n line below (k .tree) (k .place) fields condition-is u)
-      (takes-row text q h (goes (k .tree) (rowsPassed target′)) (goCells (q .words) (end .words) (rowsPassed target′)) end (missingAt target′ n (q .missing)) r
-      (go-forms q (k .tree) (k .place) end w (rowsPassed target′) (goCells (q .words) (end .words) (rowsPassed target′)) code₁ code₂ (k .held) refl)
-      (j .named u)))
+      takes-as text (λ (p : Progress). goLine p n (lines below) line) (λ (p : Progress). addRow p (goes (found .tree) passed) gone) q r
+      (λ rs. go-taken (progressOf text q rs) n line below (found .tree) (found .place) fields condition-is u)
+      (takes-row text q h (goes (found .tree) passed) (goCells (q .words) (end .words) passed) end gone r
+      (go-forms q (found .tree) (found .place) end w passed code₁ code₂ (found .held)) (j .named u)))
       (λ u.
       takes-refused text (λ (p : Progress). goLine p n (lines below) line) q Label r (j .nameless u)
-      (λ rs. go-unnamed (progressOf text q rs) n line below (k .tree) (k .place) fields condition-is u)
+      (λ rs. go-unnamed (progressOf text q rs) n line below (found .tree) (found .place) fields condition-is u)
       h)
 
 pub not-so : (b : Bool) {P : Type 0} → b ≡ true → b ≡ false → P
@@ -265,7 +277,8 @@ module _ (q : code.Progress) (n : ℕ) (label held : List ℕ) (below : List tex
       let there′ = there ∙ ap (λ (l : List ℕ). passes l below) second in
       record {
         named = λ u.
-            subst (λ (m : ℕ). Put q (goCells (q .words) (end .words) (rowsPassed (passes label below))) end m r table₁ table₂) (j ∙ ap (λ (z : Target). missingAt z n (q .missing)) there′)
+            subst (λ (m : ℕ). Put q (goCells (q .words) (end .words) (rowsPassed (passes label below))) end m r table₁ table₂)
+            (j ∙ ap (λ (z : Target). missingAt z n (q .missing)) there′)
             (subst (λ (c : List ℕ). Put q c end gone r table₁ table₂) (e ∙ ap (goCells (q .words) (end .words)) (i ∙ ap rowsPassed there′)) put);
         nameless = λ u. not-so (isName label) (ap isName (sym second) ∙ named) u;
       }
@@ -301,8 +314,11 @@ module _ (p : Progress) (s : List ℕ) where
   do-unread : hasFields 4 s ≡ true → reading ≡ unformed → doLine p s ≡ refused Expression
   do-unread t e = do-fields t ∙ ap (withRow p) e ∙ with-unformed
 
-pub do-assigned : (text : List ℕ) (q : code.Progress) → Within q → (line : List ℕ) → hasFields 4 line ≡ true → (x : RowRead) (r : taken.Step) {code₁ code₂ table₁ table₂ : List ℕ}
-    → Rows (entries text (q .registers)) line (before q) x code₁ code₂ → Assigns q x r table₁ table₂ → Takes text (λ (p : Progress). doLine p line) q r code₁ code₂ table₁ table₂
+-- a `do` line: the row that was read, if one was
+pub do-assigned : (text : List ℕ) (q : code.Progress) → Within q → (line : List ℕ) → hasFields 4 line ≡ true
+    → (x : RowRead) (r : taken.Step) {code₁ code₂ table₁ table₂ : List ℕ}
+    → Rows (entries text (q .registers)) line (before q) x code₁ code₂ → Assigns q x r table₁ table₂
+    → Takes text (λ (p : Progress). doLine p line) q r code₁ code₂ table₁ table₂
 do-assigned text q h line fields x r rows a =
     by-test (x .found)
     (λ u.

@@ -59,9 +59,10 @@ cells-length [] at = refl
 cells-length (r ∷ rs) at =
     omega (arith, length-append (cellsOf at r) (cells (at + length (rowCode r)) rs), row-length at r, cells-length rs (at + length (rowCode r)))
 
+-- the tables with a row more
 module _ (rs : List Row) (row : Row) {rows words : ℕ} {code₀ code₁ table₀ table₁ : List ℕ} (t : Tables rs rows words code₀ code₁ table₀ table₁) where
-  at-is : cells 0 (rs ++ (row ∷ [])) ≡ cells 0 rs ++ cellsOf (4 * words) row
-  at-is = cells-snoc rs row 0 ∙ ap (λ (k : ℕ). cells 0 rs ++ cellsOf k row) (zero-add (length (code rs)) ∙ sym (t .words-are))
+  cells-more : cells 0 (rs ++ (row ∷ [])) ≡ cells 0 rs ++ cellsOf (4 * words) row
+  cells-more = cells-snoc rs row 0 ∙ ap (λ (k : ℕ). cells 0 rs ++ cellsOf k row) (zero-add (length (code rs)) ∙ sym (t .words-are))
 
   pub tables-more : {words′ : ℕ} {code₂ table₂ : List ℕ} → code₂ ≡ sets code₁ (4 * words) (rowCode row) → 4 * words′ ≡ 4 * words + length (rowCode row)
       → table₂ ≡ sets table₁ (rowCells * rows) (cellsOf (4 * words) row) → Tables (rs ++ (row ∷ [])) (rows + 1) words′ code₀ code₂ table₀ table₂
@@ -79,5 +80,5 @@ module _ (rs : List Row) (row : Row) {rows words : ℕ} {code₀ code₁ table�
             ∙ ap (λ (l : List ℕ). sets l (rowCells * rows) (cellsOf (4 * words) row)) (t .table-is)
             ∙ sets-behind table₀ 0 (rowCells * rows) (cells 0 rs) (cellsOf (4 * words) row)
             (ap (λ (k : ℕ). rowCells * k) (t .rows-are) ∙ sym (cells-length rs 0) ∙ sym (zero-add (length (cells 0 rs))))
-            ∙ ap (sets table₀ 0) (sym at-is);
+            ∙ ap (sets table₀ 0) (sym cells-more);
       }

@@ -53,4 +53,6 @@ returns-4 c =
     rw (c .enum-told .given .1)
 
 pub aim-of-spec : {M : Type 1} → statement M
-aim-of-spec = tie.close (tie.spec enum-known-place enum-known-place-2 sub-t11 sub-t12 sub-t13 add-t14 enum-known-place-3 enum-told returns returns-2 returns-3 returns-4)
+aim-of-spec =
+    tie.close
+    (tie.spec enum-known-place enum-known-place-2 sub-t11 sub-t12 sub-t13 add-t14 enum-known-place-3 enum-told returns returns-2 returns-3 returns-4)

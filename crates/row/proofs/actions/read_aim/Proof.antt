@@ -20,9 +20,11 @@ aim-of-requires c κs =
 returns : tie.Need-returns
 returns c =
     let a = c .before .before .before .before .before .args in
-    let after = c .before .read-destination .last .1 .1 .1 .0 in
-    subst (λ (r : Aim). Aimed (destination (entries (a .text .now) (a .d)) (a .s .now)) (a .s .now) r (a .from) (a .code .now) after) (sym (c .aim-of .ensures))
-    (aimed (destination (entries (a .text .now) (a .d)) (a .s .now)) (a .s .now) (a .from) (a .code .now) after (c .before .read-destination .result) (c .before .read-destination .ensures))
+    let read = c .before .read-destination in
+    let after = read .last .1 .1 .1 .0 in
+    let d = destination (entries (a .text .now) (a .d)) (a .s .now) in
+    subst (λ (r : Aim). Aimed d (a .s .now) r (a .from) (a .code .now) after) (sym (c .aim-of .ensures))
+    (aimed d (a .s .now) (a .from) (a .code .now) after (read .result) (read .ensures))
 
 pub read-aim-spec : {M : Type 1} → statement M
 read-aim-spec = tie.close (tie.spec read-destination-requires aim-of-requires returns)

@@ -18,8 +18,9 @@ field-of-requires c κs = search needs
 
 read-expression-requires : tie.Need-read-expression-requires
 read-expression-requires c κs =
-    let p = c .before .before .before .before .pre in
-    let f = field-1-le (c .before .before .before .before .args .line .now) _ (c .before .field-of .ensures) in
+    let start = c .before .before .before .before in
+    let p = start .pre in
+    let f = field-1-le (start .args .line .now) _ (c .before .field-of .ensures) in
     (p .0, (omega (arith, p .1 .0, f), omega (arith, p .1 .1, f)))
 
 enum-known-condition : tie.Need-enum-known-condition
@@ -27,8 +28,10 @@ enum-known-condition c = search needs
 
 read-action-requires : tie.Need-read-action-requires
 read-action-requires c κs =
-    let p = c .before .before .before .before .before .before .before .before .before .pre in
-    let f = field-1-rest-le (c .before .before .before .before .before .before .before .before .before .args .line .now) _ (c .before .before .before .before .before .before .field-of .ensures) in
+    let field = c .before .before .before .before .before .before in
+    let start = field .before .before .before in
+    let p = start .pre in
+    let f = field-1-rest-le (start .args .line .now) _ (field .field-of .ensures) in
     let g = rw (c .before .before .condition .given .1) at (c .before .before .before .before .read-expression .ensures .grown) in
     (p .0, (omega (arith, p .1 .0), (omega (arith, p .1 .0, f, g .words-most, g .inside), omega (arith, p .1 .1, f, g .pieces-most, g .inside))))
 
@@ -40,28 +43,37 @@ no-row-requires c κs = search needs
 
 returns : tie.Need-returns
 returns c =
+    let given = c .before .before .before .condition .given in
+    let read = c .before .before .before .before .before .read-expression in
+    let first = c .before .before .before .before .before .before .before .field-of in
     let a = c .before .before .before .before .before .before .before .before .before .before .args in
     let rs = entries (a .text .now) (a .d) in
-    let end = c .before .before .before .condition .given .0 .0 in
-    let w = c .before .before .before .condition .given .0 .1 .0 in
-    let f = c .before .before .before .before .before .before .before .field-of .result .now in
-    let mid = c .before .before .before .before .before .read-expression .last .1 .1 .1 .0 in
+    let end = given .0 .0 in
+    let w = given .0 .1 .0 in
+    let f = first .result .now in
+    let mid = read .last .1 .1 .1 .0 in
     let after = c .read-action .last .1 .1 .1 .0 in
-    let m = rw (c .before .before .before .condition .given .1) at (c .before .before .before .before .before .read-expression .ensures .meets) in
+    let m = rw (given .1) at (read .ensures .meets) in
     let k = read-as (expression rs f) end w (a .from) (a .code .now) mid (moved (a .from) 0 (expression rs f) (Found end w) (a .code .now) mid m) in
     let d = destination rs (field 2 (a .line .now)) in
     let v = expression rs (field 3 (a .line .now)) in
     record {
-      forms = λ t. with-condition rs (a .line .now) (c .read-action .result) (a .from) (a .code .now) after (k .tree) (k .place) f d v (c .before .before .before .before .before .before .before .field-of .ensures) (k .is)
+      forms = λ t.
+          with-condition rs (a .line .now) (c .read-action .result) (a .from) (a .code .now) after (k .tree) (k .place) f d v (first .ensures) (k .is)
           (c .read-action .ensures .forms t (k .tree) (k .place) w (a .from) (a .code .now) refl (k .held));
-      lacks = λ t. without-row rs (a .line .now) (c .read-action .result) (a .from) (a .code .now) after (k .tree) (k .place) f d v (c .before .before .before .before .before .before .before .field-of .ensures) (k .is) (c .read-action .ensures .lacks t (k .tree) (k .place));
+      lacks = λ t.
+          without-row rs (a .line .now) (c .read-action .result) (a .from) (a .code .now) after (k .tree) (k .place) f d v (first .ensures) (k .is)
+          (c .read-action .ensures .lacks t (k .tree) (k .place));
     }
 
 returns-2 : tie.Need-returns-2
 returns-2 c =
     record {
       forms = λ t. not-so _ t (c .no-row .ensures);
-      lacks = λ t. no-condition _ _ _ (ap (expression _) (sym (c .before .before .before .before .before .field-of .ensures)) ∙ faulty _ _ _ _ (rw (c .before .enum-told .given .1) at (c .before .before .before .read-expression .ensures .meets)));
+      lacks = λ t.
+          no-condition _ _ _
+          (ap (expression _) (sym (c .before .before .before .before .before .field-of .ensures))
+          ∙ faulty _ _ _ _ (rw (c .before .enum-told .given .1) at (c .before .before .before .read-expression .ensures .meets)));
     }
 
 pub read-row-spec : {M : Type 1} → statement M

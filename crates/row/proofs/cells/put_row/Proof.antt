@@ -50,12 +50,16 @@ loop-less c = search needs
 loop-again : tie.Need-loop-again Inv-loop μ-loop
 loop-again c =
     let a = c .before .before .args in
-    (omega (arith, c .loop-test .taken), ap (λ (l : List ℕ). set l (9 * a .row + c .before .loop .i) (getD (a .t3) (c .before .loop .i) 0)) (c .before .loop .inv .1) ∙ one-cell (a .table .now) (a .t3) (9 * a .row) (c .before .loop .i) (search needs))
+    let i = c .before .loop .i in (
+      omega (arith, c .loop-test .taken),
+      ap (λ (l : List ℕ). set l (rowCells * a .row + i) (getD (a .t3) i 0)) (c .before .loop .inv .1)
+          ∙ one-cell (a .table .now) (a .t3) (rowCells * a .row) i (search needs),
+    )
 
 returns : tie.Need-returns Inv-loop μ-loop
 returns c =
     let a = c .before .before .args in
-    c .before .loop .inv .1 ∙ ap (sets (a .table .now) (9 * a .row)) (take-all (c .before .loop .i) (a .t3) (search needs))
+    c .before .loop .inv .1 ∙ ap (sets (a .table .now) (rowCells * a .row)) (take-all (c .before .loop .i) (a .t3) (search needs))
 
 pub put-row-spec : {M : Type 1} → statement M
 put-row-spec =

@@ -21,7 +21,8 @@ rows-passed-requires c κs = search needs
 
 go-cells-requires : tie.Need-go-cells-requires
 go-cells-requires c κs =
-    (c .before .before .before .before .before .before .before .pre .1 .0, c .before .before .before .before .before .before .before .pre .1 .1 .0)
+    let p = c .before .before .before .before .before .before .before .pre in
+    (p .1 .0, p .1 .1 .0)
 
 missing-at-requires : tie.Need-missing-at-requires
 missing-at-requires c κs = search needs
@@ -35,16 +36,25 @@ refused-requires c κs = search needs
 
 returns : tie.Need-returns
 returns c =
-    let a = c .before .before .before .before .before .before .before .before .before .before .before .args in
-    jumps (a .q) (a .n) (field 2 (a .line .now)) (c .before .before .before .before .before .before .before .before .field-of .result .now) (lines (a .below .now)) (c .before .before .before .before .before .before .before .before .field-of .ensures) (a .end) (c .add-row .result)
-    (sym (c .before .before .before .before .before .before .before .is-name .ensures) ∙ c .before .before .before .before .before .before .if1 .taken) (c .before .before .before .before .before .passes .result) (c .before .before .before .before .before .passes .ensures) (c .before .before .before .before .rows-passed .result) (c .before .missing-at .result) (c .before .before .before .before .rows-passed .ensures) (c .before .missing-at .ensures)
-    (c .before .before .before .go-cells .result) (c .before .before .before .go-cells .ensures) (c .add-row .ensures)
+    let made = c .before .before .before in
+    let looked = made .before .before in
+    let test = looked .before in
+    let label = test .before .before in
+    let a = label .before .before .before .args in
+    jumps (a .q) (a .n) (field 2 (a .line .now)) (label .field-of .result .now) (lines (a .below .now)) (label .field-of .ensures) (a .end) (c .add-row .result)
+    (sym (test .before .is-name .ensures) ∙ test .if1 .taken) (looked .passes .result) (looked .passes .ensures) (made .before .rows-passed .result)
+    (c .before .missing-at .result) (made .before .rows-passed .ensures) (c .before .missing-at .ensures) (made .go-cells .result) (made .go-cells .ensures)
+    (c .add-row .ensures)
 
 returns-2 : tie.Need-returns-2
 returns-2 c =
-    let a = c .before .before .before .before .before .before .args in
-    jumps-nowhere (a .q) (a .n) (field 2 (a .line .now)) (c .before .before .before .field-of .result .now) (lines (a .below .now)) (c .before .before .before .field-of .ensures) (a .end) (c .refused .result)
-    (sym (c .before .before .is-name .ensures) ∙ c .before .if1 .left) (c .refused .ensures)
+    let label = c .before .before .before in
+    let a = label .before .before .before .args in
+    jumps-nowhere (a .q) (a .n) (field 2 (a .line .now)) (label .field-of .result .now) (lines (a .below .now)) (label .field-of .ensures) (a .end)
+    (c .refused .result) (sym (c .before .before .is-name .ensures) ∙ c .before .if1 .left) (c .refused .ensures)
 
 pub add-go-spec : {M : Type 1} → statement M
-add-go-spec = tie.close (tie.spec field-of-requires is-name-requires passes-requires rows-passed-requires go-cells-requires missing-at-requires add-row-requires returns refused-requires returns-2)
+add-go-spec =
+    tie.close
+    (tie.spec field-of-requires is-name-requires passes-requires rows-passed-requires go-cells-requires missing-at-requires add-row-requires returns refused-requires
+    returns-2)

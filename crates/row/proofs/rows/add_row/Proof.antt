@@ -17,7 +17,8 @@ refused-requires c κs = search needs
 
 returns : tie.Need-returns
 returns c =
-    record { is = rw (c .before .before .before .if1 .taken) (c .one-more .ensures); table-is = rw (c .before .before .before .if1 .taken) (c .before .put-row .ensures) }
+    let room = c .before .before .before .if1 .taken in
+    record { is = rw room (c .one-more .ensures); table-is = rw room (c .before .put-row .ensures) }
 
 returns-2 : tie.Need-returns-2
 returns-2 c =

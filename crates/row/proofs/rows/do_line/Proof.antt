@@ -17,8 +17,11 @@ refused-requires c κs = search needs
 
 returns : tie.Need-returns
 returns c =
-    let a = c .before .before .before .before .before .args in
-    takes-refused _ (λ p. doLine p (a .line .now)) (a .q) Line _ (c .refused .ensures) (λ rs. do-malformed _ (a .line .now) (sym (c .before .before .has-fields .ensures) ∙ not-true _ (c .before .if1 .taken))) (c .before .before .before .before .before .pre .0)
+    let start = c .before .before .before .before .before in
+    let line = start .args .line .now in
+    takes-refused _ (λ p. doLine p line) (start .args .q) Line _ (c .refused .ensures)
+    (λ rs. do-malformed _ line (sym (c .before .before .has-fields .ensures) ∙ not-true _ (c .before .if1 .taken)))
+    (start .pre .0)
 
 read-row-requires : tie.Need-read-row-requires
 read-row-requires c κs =
@@ -32,8 +35,12 @@ add-read-requires c κs =
 
 returns-2 : tie.Need-returns-2
 returns-2 c =
-    let a = c .before .before .before .before .before .before .before .before .args in
-    do-assigned (a .text .now) (a .q) (c .before .before .before .before .before .before .before .before .pre .0) (a .line .now) (sym (c .before .before .before .before .before .has-fields .ensures) ∙ not-false _ (c .before .before .before .before .if1 .left)) (c .before .before .read-row .result) (c .add-read .result) (c .before .before .read-row .ensures) (c .add-read .ensures)
+    let row = c .before .before .read-row in
+    let test = c .before .before .before .before in
+    let start = test .before .before .before .before in
+    let a = start .args in
+    do-assigned (a .text .now) (a .q) (start .pre .0) (a .line .now) (sym (test .before .has-fields .ensures) ∙ not-false _ (test .if1 .left))
+    (row .result) (c .add-read .result) (row .ensures) (c .add-read .ensures)
 
 pub do-line-spec : {M : Type 1} → statement M
 do-line-spec = tie.close (tie.spec has-fields-requires refused-requires returns read-row-requires add-read-requires returns-2)

@@ -22,17 +22,21 @@ refused-requires c κs = search needs
 
 returns : tie.Need-returns
 returns c =
-    let a = c .before .before .before .before .before .before .args in
-    takes-refused _ (λ p. goLine p (a .n) _ (a .line .now)) (a .q) Line _ (c .refused .ensures) (λ rs. go-malformed _ (a .n) (a .line .now) (a .below .now) (sym (c .before .before .has-fields .ensures) ∙ not-true _ (c .before .if1 .taken))) (c .before .before .before .before .before .before .pre .0)
+    let start = c .before .before .before .before .before .before in
+    let a = start .args in
+    takes-refused _ (λ p. goLine p (a .n) _ (a .line .now)) (a .q) Line _ (c .refused .ensures)
+    (λ rs. go-malformed _ (a .n) (a .line .now) (a .below .now) (sym (c .before .before .has-fields .ensures) ∙ not-true _ (c .before .if1 .taken)))
+    (start .pre .0)
 
 field-of-requires : tie.Need-field-of-requires
 field-of-requires c κs = search needs
 
 read-expression-requires : tie.Need-read-expression-requires
 read-expression-requires c κs =
-    let p = c .before .before .before .before .before .before .before .pre in
+    let start = c .before .before .before .before .before .before .before in
+    let p = start .pre in
     let w = p .0 in
-    let f = field-1-le (c .before .before .before .before .before .before .before .args .line .now) _ (c .before .field-of .ensures) in
+    let f = field-1-le (start .args .line .now) _ (c .before .field-of .ensures) in
     (omega (arith, w .few-registers), (omega (arith, p .1 .0, w .few-words, w .few-pieces, f), omega (arith, p .1 .0, w .few-pieces, f)))
 
 enum-known-end : tie.Need-enum-known-end
@@ -40,9 +44,11 @@ enum-known-end c = search needs
 
 add-go-requires : tie.Need-add-go-requires
 add-go-requires c κs =
-    let p = c .before .before .before .before .before .before .before .before .before .before .before .before .pre in
+    let field = c .before .before .before .before .before .before in
+    let start = field .before .before .before .before .before .before in
+    let p = start .pre in
     let w = p .0 in
-    let f = field-1-le (c .before .before .before .before .before .before .before .before .before .before .before .before .args .line .now) _ (c .before .before .before .before .before .before .field-of .ensures) in
+    let f = field-1-le (start .args .line .now) _ (field .field-of .ensures) in
     let g = rw (c .before .before .end .given .1) at (c .before .before .before .before .read-expression .ensures .grown) in
     (w .few-rows, (omega (arith, w .few-words, w .few-pieces), (omega (arith, p .1 .0, w .few-words, w .few-pieces, f, g .words-most, g .inside), p .1 .1)))
 
@@ -54,21 +60,32 @@ refused-requires-2 c κs = search needs
 
 returns-2 : tie.Need-returns-2
 returns-2 c =
-    let start = c .before .before .before .before .before .before .before .before .before .before .before .before .before in
+    let end = c .before .before .before .end .given in
+    let read = c .before .before .before .before .before .read-expression .ensures in
+    let field = c .before .before .before .before .before .before .before in
+    let test = field .before in
+    let start = test .before .before .before .before .before in
     let a = start .args in
-    go-jumps (a .text .now) (a .q) (start .pre .0) (a .n) (a .line .now) (a .below .now) (c .before .before .before .before .before .before .before .field-of .result .now)
-    (sym (c .before .before .before .before .before .before .before .before .before .has-fields .ensures) ∙ not-false _ (c .before .before .before .before .before .before .before .before .if1 .left)) (c .before .before .before .before .before .before .before .field-of .ensures)
-    (c .before .before .before .end .given .0 .0) (c .before .before .before .end .given .0 .1 .0) _ _ (rw (c .before .before .before .end .given .1) at (c .before .before .before .before .before .read-expression .ensures .meets))
-    (c .add-go .result) (c .add-go .ensures)
+    go-jumps (a .text .now) (a .q) (start .pre .0) (a .n) (a .line .now) (a .below .now) (field .field-of .result .now)
+    (sym (test .before .has-fields .ensures) ∙ not-false _ (test .if1 .left)) (field .field-of .ensures)
+    (end .0 .0) (end .0 .1 .0) _ _ (rw (end .1) at (read .meets)) (c .add-go .result) (c .add-go .ensures)
 
 returns-3 : tie.Need-returns-3
 returns-3 c =
-    let a = c .before .before .before .before .before .before .before .before .before .before .before .args in
+    let read = c .before .before .before .read-expression .ensures in
+    let field = c .before .before .before .before .before .field-of .ensures in
+    let test = c .before .before .before .before .before .before in
+    let start = test .before .before .before .before .before in
+    let a = start .args in
     takes-refused _ (λ p. goLine p (a .n) (lines (a .below .now)) (a .line .now)) (a .q) Expression _ (c .refused2 .ensures)
     (λ rs.
-    go-unread (progressOf (a .text .now) (a .q) rs) (a .n) (a .line .now) (a .below .now) (sym (c .before .before .before .before .before .before .before .has-fields .ensures) ∙ not-false _ (c .before .before .before .before .before .before .if1 .left))
-    (ap (expression _) (sym (c .before .before .before .before .before .field-of .ensures)) ∙ faulty _ _ _ _ (rw (c .before .enum-told .given .1) at (c .before .before .before .read-expression .ensures .meets))))
-    (c .before .before .before .before .before .before .before .before .before .before .before .pre .0)
+    go-unread (progressOf (a .text .now) (a .q) rs) (a .n) (a .line .now) (a .below .now)
+    (sym (test .before .has-fields .ensures) ∙ not-false _ (test .if1 .left))
+    (ap (expression _) (sym field) ∙ faulty _ _ _ _ (rw (c .before .enum-told .given .1) at (read .meets))))
+    (start .pre .0)
 
 pub go-line-spec : {M : Type 1} → statement M
-go-line-spec = tie.close (tie.spec has-fields-requires refused-requires returns field-of-requires read-expression-requires enum-known-end add-go-requires returns-2 enum-told refused-requires-2 returns-3)
+go-line-spec =
+    tie.close
+    (tie.spec has-fields-requires refused-requires returns field-of-requires read-expression-requires enum-known-end add-go-requires returns-2 enum-told
+    refused-requires-2 returns-3)

@@ -7,7 +7,7 @@ use Prim.Native.Nat.{ℕ, suc, _+_, _≤_}
 use native.Mathlib.Omega.{arith}
 use lib.Dec.{eqb, leb, ltb}
 use lib.ListN.{length, length-append}
-use borrow.Author.Tests.{ltb-true, leb-true}
+use borrow.Author.Tests.{ltb-true, leb-true, not-true}
 use Rattle.word.specs.Word.{widest}
 use Rattle.characters.specs.Characters.{same}
 use Rattle.fields.specs.Fields.{Line, lineFeed, until, before, after, lines, field, hasFields}
@@ -32,10 +32,9 @@ use Rattle.line.specs.Line.{isFit, readLine}
 use Rattle.description.specs.Description.{Answer, accepted, turnedDown, header, nothing, hasRun, finished, readLines, readText}
 use Rattle.description.specs.Formed.{FormedRow, FormedRows, Lands, Lower, piecesOf, Formed, labelsIn, Keeps}
 
--- a first word is one of them
-module _ (s w : List ℕ) (e : same s w ≡ true) where
-  other : (v : List ℕ) → same w v ≡ false → same s v ≡ false
-  other v f = ap (λ (l : List ℕ). same l v) (equal s w e) ∙ f
+-- what is one word is no other
+other : (s w : List ℕ) → same s w ≡ true → (v : List ℕ) → same w v ≡ false → same s v ≡ false
+other s w e v f = ap (λ (l : List ℕ). same l v) (equal s w e) ∙ f
 
 -- the rows among the lines
 rowsIn : List Line → ℕ
@@ -47,17 +46,17 @@ module _ (l : Line) (ls : List Line) where
   unfolding rowsIn
   row-counted e = rw (e, rowsIn)
 
-  row-not : isRow (l .bytes) ≡ false → rowsIn (l ∷ ls) ≡ rowsIn ls
+  row-uncounted : isRow (l .bytes) ≡ false → rowsIn (l ∷ ls) ≡ rowsIn ls
   unfolding rowsIn
-  row-not e = rw (e, rowsIn)
+  row-uncounted e = rw (e, rowsIn)
 
   label-counted : same (field 0 (l .bytes)) atWord ≡ true → labelsIn (l ∷ ls) ≡ suc (labelsIn ls)
   unfolding labelsIn
   label-counted e = rw (e, labelsIn)
 
-  label-not : same (field 0 (l .bytes)) atWord ≡ false → labelsIn (l ∷ ls) ≡ labelsIn ls
+  label-uncounted : same (field 0 (l .bytes)) atWord ≡ false → labelsIn (l ∷ ls) ≡ labelsIn ls
   unfolding labelsIn
-  label-not e = rw (e, labelsIn)
+  label-uncounted e = rw (e, labelsIn)
 
 -- a `go` passes over rows that are there
 further-le : (t : Target) (n : ℕ) → rowsPassed t ≤ n → rowsPassed (further 1 t) ≤ suc n
@@ -72,7 +71,7 @@ passes-le label (l ∷ ls) =
     (λ e.
     by-case (λ (t : Target). rowsPassed t ≤ rowsIn (l ∷ ls)) (isRow (l .bytes))
     (λ f. subst (λ (n : ℕ). rowsPassed (further 1 (passes label ls)) ≤ n) (sym (row-counted l ls f)) (further-le (passes label ls) (rowsIn ls) (passes-le label ls)))
-    (λ f. subst (λ (n : ℕ). rowsPassed (passes label ls) ≤ n) (sym (row-not l ls f)) (passes-le label ls)))
+    (λ f. subst (λ (n : ℕ). rowsPassed (passes label ls) ≤ n) (sym (row-uncounted l ls f)) (passes-le label ls)))
 
 -- one more behind the others
 registers-snoc : (rs : List Named) (e : Named) → Registers rs → 1 ≤ e .number → e .number ≤ widest → Registers (rs ++ (e ∷ []))
@@ -113,6 +112,7 @@ record Kept (all : ℕ) (p : Progress) (ls : List Line) : Type 0 where
   unbegun : p .begun ≡ false → p .rows ≡ []
   labels-left : length (p .labels) + labelsIn ls ≡ all
 
+-- what holds after a line, unless it is refused
 abbrev After : ℕ → List Line → Step → Type 0
 After all ls (refused f) = Unit {0}
 After all ls (next q) = Kept all q ls
@@ -129,22 +129,23 @@ module _ (all : ℕ) (p : Progress) (l : Line) (ls : List Line) (h : Kept all p 
       (λ t.
       by-case (After all ls) (ltb (length (p .registers)) mostRegisters)
       (λ u.
+      let width = widthOf (decimalAt w 0) in
+      let added : Named = record { name = n; number = width } in
       let k = and-right (isNewName (p .registers) n) (isWidth w (decimalAt w 0)) t in
-      let j = and-left (leb 1 (widthOf (decimalAt w 0)) && leb (widthOf (decimalAt w 0)) widest) (eqb (endOf (decimalAt w 0)) (length w)) k in
+      let j = and-left (leb 1 width && leb width widest) (eqb (endOf (decimalAt w 0)) (length w)) k in
       record {
-        few-registers = omega (arith, length-append (p .registers) (record { name = n; number = widthOf (decimalAt w 0) } ∷ []), ltb-true (length (p .registers)) mostRegisters u);
+        few-registers = omega (arith, length-append (p .registers) (added ∷ []), ltb-true (length (p .registers)) mostRegisters u);
         registers-fit =
-            registers-snoc (p .registers) (record { name = n; number = widthOf (decimalAt w 0) }) (h .registers-fit)
-            (leb-true 1 (widthOf (decimalAt w 0)) (and-left (leb 1 (widthOf (decimalAt w 0))) (leb (widthOf (decimalAt w 0)) widest) j))
-            (leb-true (widthOf (decimalAt w 0)) widest (and-right (leb 1 (widthOf (decimalAt w 0))) (leb (widthOf (decimalAt w 0)) widest) j));
+            registers-snoc (p .registers) added (h .registers-fit) (leb-true 1 width (and-left (leb 1 width) (leb width widest) j))
+            (leb-true width widest (and-right (leb 1 width) (leb width widest) j));
         few-labels = h .few-labels;
         few-rows = h .few-rows;
         pieces-are = h .pieces-are;
         few-pieces = h .few-pieces;
-        rows-formed = subst (λ (rows : List Row). FormedRows (p .registers ++ (record { name = n; number = widthOf (decimalAt w 0) } ∷ [])) rows) (sym (h .unbegun b)) tt;
-        lower = subst (λ (k : ℕ). Lower k (p .rows)) (row-not l ls r) (h .lower);
+        rows-formed = subst (λ (rows : List Row). FormedRows (p .registers ++ (added ∷ [])) rows) (sym (h .unbegun b)) tt;
+        lower = subst (λ (k : ℕ). Lower k (p .rows)) (row-uncounted l ls r) (h .lower);
         unbegun = h .unbegun;
-        labels-left = subst (λ (k : ℕ). length (p .labels) + k ≡ all) (label-not l ls a) (h .labels-left);
+        labels-left = subst (λ (k : ℕ). length (p .labels) + k ≡ all) (label-uncounted l ls a) (h .labels-left);
       })
       (λ u. tt))
       (λ t. tt)
@@ -153,12 +154,8 @@ module _ (all : ℕ) (p : Progress) (l : Line) (ls : List Line) (h : Kept all p 
   unfolding regLine
   reg-kept r a =
       by-case (After all ls) (hasFields 3 s && not (p .begun))
-      (λ t. register-kept (turned (p .begun) (and-right (hasFields 3 s) (not (p .begun)) t)) r a (field 1 s) (field 2 s))
+      (λ t. register-kept (not-true (p .begun) (and-right (hasFields 3 s) (not (p .begun)) t)) r a (field 1 s) (field 2 s))
       (λ t. tt)
-    where
-      turned : (b : Bool) → not b ≡ true → b ≡ false
-      turned true e = sym e
-      turned false e = refl
 
   -- a label more
   label-kept : isRow s ≡ false → same (field 0 s) atWord ≡ true → (n : List ℕ) → After all ls (addLabel p n)
@@ -176,7 +173,7 @@ module _ (all : ℕ) (p : Progress) (l : Line) (ls : List Line) (h : Kept all p 
         pieces-are = h .pieces-are;
         few-pieces = h .few-pieces;
         rows-formed = h .rows-formed;
-        lower = subst (λ (k : ℕ). Lower k (p .rows)) (row-not l ls r) (h .lower);
+        lower = subst (λ (k : ℕ). Lower k (p .rows)) (row-uncounted l ls r) (h .lower);
         unbegun = λ e. absurd (mathlib.Core.Bool.false≢true (sym e));
         labels-left = omega (arith, length-append (p .labels) (record { name = n; number = 0 } ∷ []), label-counted l ls a, h .labels-left);
       })
@@ -188,23 +185,25 @@ module _ (all : ℕ) (p : Progress) (l : Line) (ls : List Line) (h : Kept all p 
   at-kept r a = by-case (After all ls) (hasFields 2 s) (λ t. label-kept r a (field 1 s)) (λ t. tt)
 
   -- a row more
-  row-kept : isRow s ≡ true → same (field 0 s) atWord ≡ false → (row : Row) (gone : ℕ) → FormedRow (p .registers) row → Lands row (rowsIn ls) → After all ls (addRow p row gone)
+  row-kept : isRow s ≡ true → same (field 0 s) atWord ≡ false → (row : Row) (gone : ℕ) → FormedRow (p .registers) row → Lands row (rowsIn ls)
+      → After all ls (addRow p row gone)
   unfolding addRow
-  row-kept r a row gone f k =
+  row-kept r a row gone f lands =
       by-case (After all ls) (ltb (length (p .rows)) mostRows && leb (p .pieces + rowPieces row) allPieces)
       (λ t.
+      let j = and-left (ltb (length (p .rows)) mostRows) (leb (p .pieces + rowPieces row) allPieces) t in
+      let k = and-right (ltb (length (p .rows)) mostRows) (leb (p .pieces + rowPieces row) allPieces) t in
       record {
         few-registers = h .few-registers;
         registers-fit = h .registers-fit;
         few-labels = h .few-labels;
-        few-rows =
-            omega (arith, length-append (p .rows) (row ∷ []), ltb-true (length (p .rows)) mostRows (and-left (ltb (length (p .rows)) mostRows) (leb (p .pieces + rowPieces row) allPieces) t));
+        few-rows = omega (arith, length-append (p .rows) (row ∷ []), ltb-true (length (p .rows)) mostRows j);
         pieces-are = omega (arith, h .pieces-are, pieces-snoc (p .rows) row);
-        few-pieces = leb-true (p .pieces + rowPieces row) allPieces (and-right (ltb (length (p .rows)) mostRows) (leb (p .pieces + rowPieces row) allPieces) t);
+        few-pieces = leb-true (p .pieces + rowPieces row) allPieces k;
         rows-formed = rows-snoc (p .registers) (p .rows) row (h .rows-formed) f;
-        lower = lower-snoc (p .rows) row (rowsIn ls) (subst (λ (n : ℕ). Lower n (p .rows)) (row-counted l ls r) (h .lower)) k;
+        lower = lower-snoc (p .rows) row (rowsIn ls) (subst (λ (n : ℕ). Lower n (p .rows)) (row-counted l ls r) (h .lower)) lands;
         unbegun = λ e. absurd (mathlib.Core.Bool.false≢true (sym e));
-        labels-left = subst (λ (n : ℕ). length (p .labels) + n ≡ all) (label-not l ls a) (h .labels-left);
+        labels-left = subst (λ (n : ℕ). length (p .labels) + n ≡ all) (label-uncounted l ls a) (h .labels-left);
       })
       (λ t. tt)
 
@@ -216,7 +215,8 @@ module _ (all : ℕ) (p : Progress) (l : Line) (ls : List Line) (h : Kept all p 
   FormedReading (formed row) = FormedRow rs row × Lands row (rowsIn ls)
   FormedReading unformed = Unit {0}
 
-  do-row-formed : (c : Reading) (d : Destination) (e : Reading) → Reads (Accepted rs) c → FormedDestination rs d → Reads (Accepted rs) e → FormedReading (doRow c d e)
+  do-row-formed : (c : Reading) (d : Destination) (e : Reading) → Reads (Accepted rs) c → FormedDestination rs d → Reads (Accepted rs) e
+      → FormedReading (doRow c d e)
   unfolding doRow
   do-row-formed (read c x) d (read e y) i j k =
       by-case FormedReading (isSomewhere d) (λ t. (record { condition = i; somewhere = t; destination = j; value = k }, tt)) (λ t. tt)
@@ -233,12 +233,15 @@ module _ (all : ℕ) (p : Progress) (l : Line) (ls : List Line) (h : Kept all p 
   do-kept r a =
       by-case (After all ls) (hasFields 4 s)
       (λ t.
-      with-kept r a (doRow (expression rs (field 1 s)) (destination rs (field 2 s)) (expression rs (field 3 s)))
-      (do-row-formed (expression rs (field 1 s)) (destination rs (field 2 s)) (expression rs (field 3 s)) (expression-formed rs (field 1 s)) (destination-formed rs (field 2 s)) (expression-formed rs (field 3 s))))
+      let c = expression rs (field 1 s) in
+      let d = destination rs (field 2 s) in
+      let e = expression rs (field 3 s) in
+      with-kept r a (doRow c d e) (do-row-formed c d e (expression-formed rs (field 1 s)) (destination-formed rs (field 2 s)) (expression-formed rs (field 3 s))))
       (λ t. tt)
 
   -- a `go` row
-  go-row-kept : isRow s ≡ true → same (field 0 s) atWord ≡ false → (n : ℕ) (label : List ℕ) (c : Reading) → Reads (Accepted rs) c → After all ls (goRow p n label (passes label ls) c)
+  go-row-kept : isRow s ≡ true → same (field 0 s) atWord ≡ false → (n : ℕ) (label : List ℕ) (c : Reading) → Reads (Accepted rs) c
+      → After all ls (goRow p n label (passes label ls) c)
   unfolding goRow
   go-row-kept r a n label (read c x) f =
       by-case (After all ls) (isName label)
@@ -331,12 +334,13 @@ start-kept ls =
 text-kept : (s : List ℕ) → Ends (labelsIn (lines (after lineFeed s))) (readText s)
 unfolding readText
 text-kept s =
-    by-case (Ends (labelsIn (lines (after lineFeed s)))) (leb (length s) mostBytes)
+    let ls = lines (after lineFeed s) in
+    by-case (Ends (labelsIn ls)) (leb (length s) mostBytes)
     (λ t.
-    by-case (Ends (labelsIn (lines (after lineFeed s)))) (same (before lineFeed s) header)
+    by-case (Ends (labelsIn ls)) (same (before lineFeed s) header)
     (λ u.
-    by-case (Ends (labelsIn (lines (after lineFeed s)))) (ltb (until lineFeed s) (length s))
-    (λ v. lines-kept (labelsIn (lines (after lineFeed s))) (lines (after lineFeed s)) nothing 2 (start-kept (lines (after lineFeed s))))
+    by-case (Ends (labelsIn ls)) (ltb (until lineFeed s) (length s))
+    (λ v. lines-kept (labelsIn ls) ls nothing 2 (start-kept ls))
     (λ v. tt))
     (λ u. tt))
     (λ t. tt)

@@ -31,7 +31,7 @@ use Rattle.declaration.specs.Stored.{progressOf, stepBy, Within}
 use Rattle.code.specs.Met.{capacity}
 use Rattle.row.specs.Cells as cells
 use Rattle.row_table.specs.RowTable.{rowCells}
-use Rattle.row.specs.Stored.{Tables, Takes}
+use Rattle.row.specs.Stored.{Tables, Comes, Takes}
 use Rattle.line.specs.Line.{readLine, Rest}
 use Rattle.description.specs.declared.reader.Answer as reader
 use Rattle.description.specs.declared.reader.Verdict.{Verdict}
@@ -40,12 +40,15 @@ use Rattle.description.specs.Description.{Answer, accepted, turnedDown, 
 use Rattle.description.specs.Stored.{unread, answerBy, Finishes, Tells, Answers}
 
 -- what is left of a text
-pub rest-drop : (text : List ℕ) (k : ℕ) → Rest text (drop k text)
+rest-drop : (text : List ℕ) (k : ℕ) → Rest text (drop k text)
 rest-drop text k =
     by-test (leb k (length text))
     (λ t.
     let h : k ≤ length text = leb-true k (length text) t in
-    record { is = ap (λ (i : ℕ). drop i text) {x = k} {y = length text - length (drop k text)} (omega (arith, length-drop k text, h)); fits = omega (arith, length-drop k text) })
+    record {
+      is = ap (λ (i : ℕ). drop i text) {x = k} {y = length text - length (drop k text)} (omega (arith, length-drop k text, h));
+      fits = omega (arith, length-drop k text);
+    })
     (λ t.
     let h : length text < k = leb-false k (length text) t in
     let nil : drop k text ≡ [] = drop-of-length-le text {i = k} (omega (arith, h)) in
@@ -54,7 +57,7 @@ rest-drop text k =
       fits = omega (arith, length-drop k text);
     })
 
-pub rest-after : (text rest : List ℕ) → Rest text rest → Rest text (after lineFeed rest)
+rest-after : (text rest : List ℕ) → Rest text rest → Rest text (after lineFeed rest)
 rest-after text rest r =
     subst (λ (l : List ℕ). Rest text l)
     (sym (ap (drop (until lineFeed rest + 1)) (r .is) ∙ drop-drop (until lineFeed rest + 1) (length text - length rest) text))
@@ -94,7 +97,7 @@ module _ (p : Progress) (n : ℕ) (l : fields.Line) (ls : List fields.Line) wher
   unfolding readLines
   bad-line f e = rw (e, readLines)
 
-pub no-lines : (p : Progress) (n : ℕ) → readLines p n [] ≡ finished p n
+no-lines : (p : Progress) (n : ℕ) → readLines p n [] ≡ finished p n
 unfolding readLines
 no-lines p n = refl
 
@@ -107,6 +110,7 @@ pub record Turning (text code₀ table₀ rest : List ℕ) (q : code.Progress) (
   pub left : Rest text rest
   pub count : n + length rest ≤ length text + 2
 
+-- before the first line
 none-yet : (text : List ℕ) → progressOf text unread [] ≡ nothing
 unfolding entriesFrom
 none-yet text = refl
@@ -115,7 +119,8 @@ no-rows : (code₀ table₀ : List ℕ) → Tables [] 0 0 code₀ code₀ table�
 unfolding cells.code cells.cells
 no-rows code₀ table₀ = record { rows-are = refl; words-are = refl; code-is = refl; table-is = refl }
 
-pub turn-start : (text code₀ table₀ rest : List ℕ) (q : code.Progress) → q ≡ unread → rest ≡ after lineFeed text → Turning text code₀ table₀ rest q 2 code₀ table₀
+pub turn-start : (text code₀ table₀ rest : List ℕ) (q : code.Progress) → q ≡ unread → rest ≡ after lineFeed text
+    → Turning text code₀ table₀ rest q 2 code₀ table₀
 turn-start text code₀ table₀ rest q e f =
     subst (λ (x : code.Progress). Turning text code₀ table₀ rest x 2 code₀ table₀) (sym e)
     (subst (λ (l : List ℕ). Turning text code₀ table₀ l unread 2 code₀ table₀) (sym f)
@@ -128,39 +133,43 @@ turn-start text code₀ table₀ rest q e f =
       count = omega (arith, length-drop (until lineFeed text + 1) text);
     }))
 
+-- a line more
 module _ (text code₀ table₀ rest : List ℕ) (q : code.Progress) (n : ℕ) (code₁ table₁ : List ℕ) (t : Turning text code₀ table₀ rest q n code₁ table₁) where
   module _ (r : taken.Step) (code₂ table₂ : List ℕ) (h : 0 < length rest)
       (k : Takes text (λ (p : Progress). readLine p n (lines (after lineFeed rest)) (firstLine rest)) q r code₁ code₂ table₁ table₂) where
     abbrev now : Progress
     now = progressOf text q (t .rows)
 
-    came : (s : Status) → r .status ≡ s
-        → readLine now n (lines (after lineFeed rest)) (firstLine rest) ≡ stepBy s (progressOf text (r .progress) (k .comes (t .rows) code₀ table₀ (t .tables) .rows))
-    came s e =
-        k .comes (t .rows) code₀ table₀ (t .tables) .is
-        ∙ ap (λ (x : Status). stepBy x (progressOf text (r .progress) (k .comes (t .rows) code₀ table₀ (t .tables) .rows))) e
+    abbrev came : Comes text (readLine now n (lines (after lineFeed rest)) (firstLine rest)) r code₀ code₂ table₀ table₂
+    came = k .comes (t .rows) code₀ table₀ (t .tables)
+
+    came-to : (s : Status) → r .status ≡ s
+        → readLine now n (lines (after lineFeed rest)) (firstLine rest) ≡ stepBy s (progressOf text (r .progress) (came .rows))
+    came-to s e = came .is ∙ ap (λ (x : Status). stepBy x (progressOf text (r .progress) (came .rows))) e
 
     opened : readLines now n (lines rest) ≡ readLines now n (firstLine rest ∷ lines (after lineFeed rest))
     opened = ap (readLines now n) (first-line rest h)
 
-    pub turn-next : (rest′ : List ℕ) (q′ : code.Progress) → rest′ ≡ after lineFeed rest → q′ ≡ r .progress → r .status ≡ Goes → Turning text code₀ table₀ rest′ q′ (n + 1) code₂ table₂
+    pub turn-next : (rest′ : List ℕ) (q′ : code.Progress) → rest′ ≡ after lineFeed rest → q′ ≡ r .progress → r .status ≡ Goes
+        → Turning text code₀ table₀ rest′ q′ (n + 1) code₂ table₂
     turn-next rest′ q′ f g e =
         subst (λ (l : List ℕ). Turning text code₀ table₀ l q′ (n + 1) code₂ table₂) (sym f)
         (subst (λ (x : code.Progress). Turning text code₀ table₀ (after lineFeed rest) x (n + 1) code₂ table₂) (sym g)
         (record {
-          rows = k .comes (t .rows) code₀ table₀ (t .tables) .rows;
-          is = t .is ∙ opened ∙ one-line now n (firstLine rest) (lines (after lineFeed rest)) _ (came Goes e);
-          tables = k .comes (t .rows) code₀ table₀ (t .tables) .holds e;
+          rows = came .rows;
+          is = t .is ∙ opened ∙ one-line now n (firstLine rest) (lines (after lineFeed rest)) _ (came-to Goes e);
+          tables = came .holds e;
           within = k .within;
           left = rest-after text rest (t .left);
           count = omega (arith, t .count, length-drop (until lineFeed rest + 1) rest, h);
         }))
 
     pub turn-refused : (f : Fault) → r .status ≡ Refused f → readLines nothing 2 (lines (after lineFeed text)) ≡ turnedDown f n
-    turn-refused f e = t .is ∙ opened ∙ bad-line now n (firstLine rest) (lines (after lineFeed rest)) f (came (Refused f) e)
+    turn-refused f e = t .is ∙ opened ∙ bad-line now n (firstLine rest) (lines (after lineFeed rest)) f (came-to (Refused f) e)
 
   -- past the last line
-  pub turn-last : (a : reader.Answer) (v : Verdict) → length rest ≤ 0 → Finishes text q n v → a ≡ record { registers = q .registers; rows = q .rows; verdict = v }
+  pub turn-last : (a : reader.Answer) (v : Verdict) → length rest ≤ 0 → Finishes text q n v
+      → a ≡ record { registers = q .registers; rows = q .rows; verdict = v }
       → Tells text (readLines nothing 2 (lines (after lineFeed text))) a code₀ code₁ table₀ table₁
   turn-last a v h f e =
       subst (λ (x : reader.Answer). Tells text (readLines nothing 2 (lines (after lineFeed text))) x code₀ code₁ table₀ table₁) (sym e)
@@ -176,12 +185,16 @@ abbrev isAccepted : Verdict → Bool
 isAccepted verdict.Accepted = true
 isAccepted (verdict.Refused f n) = false
 
+not-both : (v : Verdict) {f : Fault} {n : ℕ} {P : Type 0} → v ≡ verdict.Refused f n → v ≡ verdict.Accepted → P
+not-both v e k = absurd (mathlib.Core.Bool.false≢true (ap isAccepted (sym e ∙ k)))
+
 -- the answer that accepts nothing
 abbrev down : Fault → ℕ → reader.Answer
 down f n = record { registers = none; rows = 0; verdict = verdict.Refused f n }
 
 -- a text that is turned down
-pub tells-refused : (text : List ℕ) (x : Answer) (f : Fault) (n : ℕ) (a : reader.Answer) (code₀ code₁ table₀ table₁ : List ℕ) → a ≡ down f n → x ≡ turnedDown f n
+pub tells-refused : (text : List ℕ) (x : Answer) (f : Fault) (n : ℕ) (a : reader.Answer) (code₀ code₁ table₀ table₁ : List ℕ) → a ≡ down f n
+    → x ≡ turnedDown f n
     → Tells text x a code₀ code₁ table₀ table₁
 tells-refused text x f n a code₀ code₁ table₀ table₁ e g =
     record {
@@ -193,9 +206,11 @@ tells-refused text x f n a code₀ code₁ table₀ table₁ e g =
     }
   where
     other : {P : Type 0} → a .verdict ≡ verdict.Accepted → P
-    other k = absurd (mathlib.Core.Bool.false≢true (ap isAccepted (sym (ap (λ (r : reader.Answer). r .verdict) e) ∙ k)))
+    other k = not-both (a .verdict) (ap (λ (r : reader.Answer). r .verdict) e) k
 
-pub tells-as : (text : List ℕ) (x y : Answer) (a : reader.Answer) (code₀ code₁ table₀ table₁ : List ℕ) → x ≡ y → Tells text y a code₀ code₁ table₀ table₁ → Tells text x a code₀ code₁ table₀ table₁
+-- a text of which the definition says the same
+pub tells-as : (text : List ℕ) (x y : Answer) (a : reader.Answer) (code₀ code₁ table₀ table₁ : List ℕ) → x ≡ y → Tells text y a code₀ code₁ table₀ table₁
+    → Tells text x a code₀ code₁ table₀ table₁
 tells-as text x y a code₀ code₁ table₀ table₁ e k = subst (λ (z : Answer). Tells text z a code₀ code₁ table₀ table₁) (sym e) k
 
 -- what a caller finds of a text that is accepted, and of one that is turned down, after which the tables are emptied
@@ -208,7 +223,7 @@ answers-accepted text x a code₀ code₁ table₀ table₁ e t =
       rows-are = t .rows-are;
       code-is = t .code-is;
       table-is = t .table-is;
-      refused = λ f n k. absurd (mathlib.Core.Bool.false≢true (ap isAccepted (sym k ∙ e)));
+      refused = λ f n k. not-both (a .verdict) k e;
     }
 
 pub answers-refused : (text : List ℕ) (x : Answer) (f : Fault) (n : ℕ) (a r : reader.Answer) (code₀ code₁ code₂ table₀ table₁ table₂ : List ℕ)
@@ -240,7 +255,8 @@ module _ (s : List ℕ) where
   unfolding readText
   no-header a b = rw (a, b, readText)
 
-  pub header-alone : leb (length s) mostBytes ≡ true → same (before lineFeed s) header ≡ true → ltb (until lineFeed s) (length s) ≡ false → readText s ≡ turnedDown Line 1
+  pub header-alone : leb (length s) mostBytes ≡ true → same (before lineFeed s) header ≡ true → ltb (until lineFeed s) (length s) ≡ false
+      → readText s ≡ turnedDown Line 1
   unfolding readText
   header-alone a b c = rw (a, b, c, readText)
 
@@ -253,13 +269,16 @@ module _ (s : List ℕ) where
 pub run-found : (text : List ℕ) (d : Dictionary) (i n : ℕ) → i ≡ find runName (entries text d) → n ≡ getD (d .numbers) i 0
     → ltb i (d .count) && eqb n 1 ≡ hasRun (entries text d)
 run-found text d i n e f =
+    let rs = entries text d in
     by-test (ltb i (d .count))
     (λ t.
     ap (λ (m : ℕ). ltb i (d .count) && eqb m 1) (f ∙ sym (width-is text d i (ltb-true i (d .count) t)))
-    ∙ ap (λ (m : ℕ). ltb i m && eqb (widthIn (entries text d) i) 1) (sym (entries-length text d))
-    ∙ ap (λ (j : ℕ). ltb j (length (entries text d)) && eqb (widthIn (entries text d) j) 1) e)
-    (λ t. short (ltb i (d .count)) (eqb n 1) t ∙ sym (short (ltb (find runName (entries text d)) (length (entries text d))) (eqb (widthIn (entries text d) (find runName (entries text d))) 1)
-    (ap (λ (j : ℕ). ltb j (length (entries text d))) (sym e) ∙ ap (ltb i) (entries-length text d) ∙ t)))
+    ∙ ap (λ (m : ℕ). ltb i m && eqb (widthIn rs i) 1) (sym (entries-length text d))
+    ∙ ap (λ (j : ℕ). ltb j (length rs) && eqb (widthIn rs j) 1) e)
+    (λ t.
+    short (ltb i (d .count)) (eqb n 1) t
+    ∙ sym (short (ltb (find runName rs) (length rs)) (eqb (widthIn rs (find runName rs)) 1)
+    (ap (λ (j : ℕ). ltb j (length rs)) (sym e) ∙ ap (ltb i) (entries-length text d) ∙ t)))
   where
     short : (a b : Bool) → a ≡ false → a && b ≡ false
     short a b h = rw h

@@ -15,7 +15,8 @@ number-of-requires c κs = search needs
 
 returns : tie.Need-returns
 returns c =
-    run-found (c .before .before .before .before .before .args .text .now) (c .before .before .before .before .before .args .registers) _ _ (c .before .before .place-of .ensures) (c .number-of .ensures)
+    let a = c .before .before .before .before .before .args in
+    run-found (a .text .now) (a .registers) _ _ (c .before .before .place-of .ensures) (c .number-of .ensures)
 
 pub has-run-spec : {M : Type 1} → statement M
 has-run-spec =

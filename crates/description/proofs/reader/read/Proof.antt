@@ -22,8 +22,8 @@ returns c = answers-accepted _ _ _ _ _ _ _ (c .enum-told .given .1) (c .before .
 
 returns-2 : tie.Need-returns-2
 returns-2 c =
-    answers-refused _ _ _ _ _ _ _ _ _ _ _ _ (c .before .before .before .before .verdict .given .1) (c .before .before .before .before .before .before .read-text .ensures)
-    (c .turned-down .ensures) refl refl
+    let refused = c .before .before .before .before in
+    answers-refused _ _ _ _ _ _ _ _ _ _ _ _ (refused .verdict .given .1) (refused .before .before .read-text .ensures) (c .turned-down .ensures) refl refl
 
 pub read-spec : {M : Type 1} → statement M
 read-spec =

@@ -43,33 +43,44 @@ turned-down-requires c κs = search needs
 
 returns : tie.Need-returns Inv-loop μ-loop
 returns c =
-    let t = c .before .before .before .before .before .before .before .before .loop .inv in
-    tells-refused (c .before .before .before .before .before .before .before .before .before .before .before .before .args .text .now) _ _ _ _ _ _ _ _ (c .turned-down .ensures)
-    (turn-refused (c .before .before .before .before .before .before .before .before .before .before .before .before .args .text .now) _ _ _ _ _ _ _ t _ _ _ (c .before .before .before .before .before .before .before .loop-test .taken) (c .before .before .before .before .read-line .ensures) _ (c .before .before .status .given .1))
+    let line = c .before .before .before .before .read-line .ensures in
+    let test = c .before .before .before .before .before .before .before in
+    let loop = test .before in
+    let text = loop .before .before .before .before .args .text .now in
+    tells-refused text _ _ _ _ _ _ _ _ (c .turned-down .ensures)
+    (turn-refused text _ _ _ _ _ _ _ (loop .loop .inv) _ _ _ (test .loop-test .taken) line _ (c .before .before .status .given .1))
 
 part-after-requires-2 : tie.Need-part-after-requires-2 Inv-loop μ-loop
 part-after-requires-2 c κs = search needs
 
 add-n : tie.Need-add-n Inv-loop μ-loop
 add-n c =
-    omega (arith, c .before .before .before .before .before .before .before .before .loop .inv .count, c .before .before .before .before .before .before .before .before .before .before .before .before .pre)
+    let loop = c .before .before .before .before .before .before .before .before in
+    omega (arith, loop .loop .inv .count, loop .before .before .before .before .pre)
 
 loop-less : tie.Need-loop-less Inv-loop μ-loop
 loop-less c =
-    omega (arith, ap length (c .part-after2 .ensures), length-drop (until lineFeed (c .before .before .before .before .before .before .before .before .loop .rest .now) + 1) (c .before .before .before .before .before .before .before .before .loop .rest .now), c .before .before .before .before .before .before .before .loop-test .taken)
+    let test = c .before .before .before .before .before .before .before in
+    let rest = test .before .loop .rest .now in
+    omega (arith, ap length (c .part-after2 .ensures), length-drop (until lineFeed rest + 1) rest, test .loop-test .taken)
 
 loop-again : tie.Need-loop-again Inv-loop μ-loop
 loop-again c =
-    let t = c .before .before .before .before .before .before .before .before .loop .inv in
-    turn-next (c .before .before .before .before .before .before .before .before .before .before .before .before .args .text .now) _ _ _ _ _ _ _ t _ _ _ (c .before .before .before .before .before .before .before .loop-test .taken) (c .before .before .before .before .read-line .ensures) _ _ (c .part-after2 .ensures) refl (c .before .before .enum-told .given .1)
+    let line = c .before .before .before .before .read-line .ensures in
+    let test = c .before .before .before .before .before .before .before in
+    let loop = test .before in
+    let text = loop .before .before .before .before .args .text .now in
+    turn-next text _ _ _ _ _ _ _ (loop .loop .inv) _ _ _ (test .loop-test .taken) line _ _ (c .part-after2 .ensures) refl
+    (c .before .before .enum-told .given .1)
 
 verdict-of-requires : tie.Need-verdict-of-requires Inv-loop μ-loop
 verdict-of-requires c κs = search needs
 
 returns-2 : tie.Need-returns-2 Inv-loop μ-loop
 returns-2 c =
-    let t = c .before .before .before .loop .inv in
-    turn-last (c .before .before .before .before .before .before .before .args .text .now) _ _ _ _ _ _ _ t _ _ (c .before .before .loop-test .left) (c .before .verdict-of .ensures) refl
+    let loop = c .before .before .before in
+    let text = loop .before .before .before .before .args .text .now in
+    turn-last text _ _ _ _ _ _ _ (loop .loop .inv) _ _ (c .before .before .loop-test .left) (c .before .verdict-of .ensures) refl
 
 pub read-lines-spec : {M : Type 1} → statement M
 read-lines-spec =

@@ -34,8 +34,11 @@ turned-down-requires-2 c κs = search needs
 
 returns-2 : tie.Need-returns-2
 returns-2 c =
+    let short = c .before .before .before .before .before .if1 .left in
+    let before = c .before .before .before .before .part-before .ensures in
     tells-refused _ _ _ _ _ _ _ _ _ (c .turned-down2 .ensures)
-    (no-header _ (le-leb _ _ (c .before .before .before .before .before .if1 .left)) (ap (λ (l : List ℕ). same l header) (sym (c .before .before .before .before .part-before .ensures)) ∙ sym (c .before .before .is-same .ensures) ∙ not-true _ (c .before .if2 .taken)))
+    (no-header _ (le-leb _ _ short)
+    (ap (λ (l : List ℕ). same l header) (sym before) ∙ sym (c .before .before .is-same .ensures) ∙ not-true _ (c .before .if2 .taken)))
 
 read-lines-requires : tie.Need-read-lines-requires
 read-lines-requires c κs = c .before .before .before .before .before .before .before .if1 .left
@@ -45,19 +48,25 @@ turned-down-requires-3 c κs = search needs
 
 returns-3 : tie.Need-returns-3
 returns-3 c =
-    let text = c .before .before .before .before .before .before .before .before .before .before .args .text .now in
-    let before = c .before .before .before .before .before .before .before .part-before .ensures in
+    let test = c .before .before .before .before in
+    let before = test .before .before .before .part-before .ensures in
+    let size = test .before .before .before .before in
+    let text = size .before .before .args .text .now in
     tells-as text _ _ _ _ _ _ _
-    (after-header text (le-leb _ _ (c .before .before .before .before .before .before .before .before .if1 .left)) (ap (λ (l : List ℕ). same l header) (sym before) ∙ sym (c .before .before .before .before .before .is-same .ensures) ∙ not-false _ (c .before .before .before .before .if2 .left))
+    (after-header text (le-leb _ _ (size .if1 .left))
+    (ap (λ (l : List ℕ). same l header) (sym before) ∙ sym (test .before .is-same .ensures) ∙ not-false _ (test .if2 .left))
     (lt-ltb (until lineFeed text) (length text) (omega (arith, c .before .before .before .if3 .taken, ap length before ∙ before-length lineFeed text))))
     (c .read-lines .ensures)
 
 returns-4 : tie.Need-returns-4
 returns-4 c =
-    let text = c .before .before .before .before .before .before .before .before .args .text .now in
-    let before = c .before .before .before .before .before .part-before .ensures in
+    let test = c .before .before in
+    let before = test .before .before .before .part-before .ensures in
+    let size = test .before .before .before .before in
+    let text = size .before .before .args .text .now in
     tells-refused text _ _ _ _ _ _ _ _ (c .turned-down3 .ensures)
-    (header-alone text (le-leb _ _ (c .before .before .before .before .before .before .if1 .left)) (ap (λ (l : List ℕ). same l header) (sym before) ∙ sym (c .before .before .before .is-same .ensures) ∙ not-false _ (c .before .before .if2 .left))
+    (header-alone text (le-leb _ _ (size .if1 .left))
+    (ap (λ (l : List ℕ). same l header) (sym before) ∙ sym (test .before .is-same .ensures) ∙ not-false _ (test .if2 .left))
     (le-ltb (until lineFeed text) (length text) (omega (arith, c .before .if3 .left, ap length before ∙ before-length lineFeed text))))
 
 pub read-text-spec : {M : Type 1} → statement M

@@ -23,7 +23,10 @@ use Rattle.pdp8_rows.specs.Text.{shippedText}
 use Rattle.pdp8_rows.specs.Shipped.{mostShippedRows, shipped}
 
 pub shipped-accepted : readText shippedText ≡ accepted shipped
-unfolding run runEnd same numberAt decimalAt markedAt shortestFrom ofDecimal constantAt lines field hasFields isName find findIn operatorRow tokenEnd operatorAt operatorEnd secondBit firstBit spanAt partOf registerAt referenceAt limited ofReference ofConstant notOf closed turned joined level whole expression ofName ofAddress memoryAt destination addRegister regLine addRow doRow withRow doLine passes goRow goLine addLabel atLine readLine finished readLines readText shippedText
+unfolding run runEnd same numberAt decimalAt markedAt shortestFrom ofDecimal constantAt lines field hasFields isName find findIn operatorRow tokenEnd
+    operatorAt operatorEnd secondBit firstBit spanAt partOf registerAt referenceAt limited ofReference ofConstant notOf closed turned joined level whole
+    expression ofName ofAddress memoryAt destination addRegister regLine addRow doRow withRow doLine passes goRow goLine addLabel atLine readLine finished
+    readLines readText shippedText
 shipped-accepted = refl
 
 pub shipped-short : length (shipped .rows) ≤ mostShippedRows

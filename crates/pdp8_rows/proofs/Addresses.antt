@@ -9,24 +9,27 @@ use lib.Dec.{eqb}
 use lib.ListN.{getD, set}
 use Rattle.word.specs.Choice.{on, pick}
 use Rattle.word.specs.Word.{wordBits, bits, next}
+use Rattle.word.proofs.Choice.{pick-either, on-bit}
+use Rattle.word.proofs.Next.{next-lt}
 use Rattle.machine.specs.State.{State, Good, withMemory}
 use Rattle.machine.specs.Instruction.{op, ib, pb, pa}
 use Rattle.machine.specs.Interrupt.{interruptTest}
+use Rattle.machine.proofs.Keeps.{stored-good}
 use Rattle.reference.specs.Address.{address, firstAddress, indexed, effective, afterIndexing}
 use Rattle.reference.specs.Reference.{operation, reference}
-use Rattle.reference.proofs.Addresses.{firstAddress-lt, indexed-acceptable}
+use Rattle.reference.proofs.Addresses.{firstAddress-lt}
 use Rattle.pdp8_rows.specs.Shipped.{rows·address}
 use Rattle.pdp8_rows.proofs.Held.{Work, Fit, held, addressed, addressed-fit}
 use Rattle.pdp8_rows.proofs.Ends.{Ends, seen, acts, moved, unless}
-use Rattle.pdp8_rows.proofs.Bits.{of-bit, over, test, word-kept, index-bits}
+use Rattle.pdp8_rows.proofs.Bits.{of-bit, negated, test, word-kept, index-bits}
 use Rattle.pdp8_rows.proofs.References.{ends-execute}
-use Rattle.word.proofs.Choice.{on-bit}
 
--- the page is chosen, or the address of the chosen page
+-- the address of the page that is chosen
 page-chosen : (t : Bool) (x y a : ℕ) → pick t (address x a) (address y a) ≡ address (pick t x y) a
 page-chosen true x y a = refl
 page-chosen false x y a = refl
 
+-- an address is a word
 on-page : (page : ℕ) (i : ℕ) → page < 2 ^ 5 → address page (pa i) % 2 ^ wordBits ≡ address page (pa i)
 on-page page i h = omega arith
 
@@ -45,16 +48,9 @@ module _ {o : State} {w : Work} (g : Good o) (f : Fit w) where
   first-lt = firstAddress-lt (w .i) (w .last)
 
   after-good : Good (withMemory after o)
+  unfolding indexed
   after-good =
-      record {
-        lac = g .lac;
-        pc = g .pc;
-        run = g .run;
-        enable = g .enable;
-        request = g .request;
-        switches = g .switches;
-        memory = indexed-acceptable first (g .memory);
-      }
+      pick-either (λ (m : List ℕ). Good (withMemory m o)) (eqb (first / 8) 1) (stored-good first (next-lt (getD (o .memory) first 0)) g) g
 
   pub ends-address : Ends rows·address (held o w) (interruptTest (reference (w .i) (w .last) o))
   unfolding reference effective afterIndexing indexed
@@ -66,7 +62,7 @@ module _ {o : State} {w : Work} (g : Good o) (f : Fit w) where
       (unless
       (λ (t : Bool). interruptTest (operation (op (w .i)) (pick t (getD after first 0) first) (withMemory (pick t after (o .memory)) o)))
       (on (ib (w .i)))
-      (test (over (of-bit (ib (w .i)) (omega arith))))
+      (test (negated (of-bit (ib (w .i)) (omega arith))))
       (ends-execute g (addressed-fit first-lt f))
       (moved (λ (m : List ℕ). held (withMemory m o) (addressed first w)) (o .memory) (set (o .memory) first (next (getD (o .memory) first 0)))
       (eqb (first / 8) 1)

@@ -1,4 +1,5 @@
--- What the rows' expressions come to, in the machine's own words: tests of one bit, the parts of LAC that are stored, and numbers that a store does not shorten.
+-- What the rows' expressions come to, in the machine's own words: tests of one bit, the parts of LAC that are stored, and numbers that a store
+-- does not shorten.
 -- Assumes nothing.
 use mathlib.Core.Path.{_≡_, refl, ap, ap₂, _∙_}
 use mathlib.Core.Bool.{Bool, true, false, not, _&&_, _||_}
@@ -34,8 +35,8 @@ pub of-zero : (x : ℕ) → Flag (bit (eqb x 0)) (not (on x))
 of-zero x = record { is = ap bit (not-not (eqb x 0)) }
 
 -- "Not" of one bit, and "And" of two
-pub over : {x : ℕ} {t : Bool} → Flag x t → Flag (complement 1 x) (not t)
-over {x} {t} p = record { is = ap (complement 1) (p .is) ∙ go t }
+pub negated : {x : ℕ} {t : Bool} → Flag x t → Flag (complement 1 x) (not t)
+negated {x} {t} p = record { is = ap (complement 1) (p .is) ∙ go t }
   where
     go : (u : Bool) → complement 1 (bit u) ≡ bit (not u)
     go true = refl
@@ -50,6 +51,7 @@ both {x} {y} {t} {u} p q = ap₂ (λ (a b : ℕ). on (bitAnd a b)) (p .is) (q .i
     go false true = refl
     go false false = refl
 
+-- a bit, as the rows test it
 pub test : {x : ℕ} {t : Bool} → Flag x t → on x ≡ t
 test {x} {t} p = ap on (p .is) ∙ on-bit t
 

@@ -5,6 +5,7 @@ use Prim.Native.Nat.{ℕ, _%_, _^_}
 use lib.Dec.{eqb}
 use lib.ListN.{getD}
 use Rattle.word.specs.Word.{wordBits, next}
+use Rattle.word.proofs.Choice.{on-bit}
 use Rattle.word.proofs.Next.{next-lt}
 use Rattle.machine.specs.State.{State, Good, word, withPc}
 use Rattle.machine.specs.Instruction.{op}
@@ -20,13 +21,12 @@ use Rattle.pdp8_rows.proofs.Bits.{word-kept}
 use Rattle.pdp8_rows.proofs.Interrupts.{ends-iot}
 use Rattle.pdp8_rows.proofs.Addresses.{ends-address}
 use Rattle.pdp8_rows.proofs.Operates.{ends-opr}
-use Rattle.word.proofs.Choice.{on-bit}
 
 module _ {o : State} {w : Work} (g : Good o) (f : Fit w) where
   ends-decode : Ends rows·decode (held o w) (execute (w .i) (w .last) o)
   unfolding execute
   ends-decode =
-      branches (λ (x : State). x) (eqb (op (w .i)) 6) (on-bit (eqb (op (w .i)) 6)) (ends-iot f g)
+      branches (λ (x : State). x) (eqb (op (w .i)) 6) (on-bit (eqb (op (w .i)) 6)) (ends-iot g f)
       (branches interruptTest (eqb (op (w .i)) 7) (on-bit (eqb (op (w .i)) 7)) (ends-opr g f) (ends-address g f))
 
 module _ {o : State} {w : Work} (g : Good o) (f : Fit w) where

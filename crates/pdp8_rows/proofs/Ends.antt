@@ -41,6 +41,7 @@ module _ {c : Expr} {d : Destination} {e : Expr} {rs : List Row} where
         same = case-true (on (value s c)) (plain rs 0 (store s d (value s e))) (plain rs 0 s) test ∙ ap (plain rs 0) eq ∙ r .same;
       }
 
+  -- one that does not
   pub idles : {s : rows.State} {o : State} → on (value s c) ≡ false → Ends rs s o → Ends (does c d e ∷ rs) s o
   unfolding plain
   idles {s} {o} test r =
@@ -77,12 +78,14 @@ module _ {c : Expr} {m : ℕ} {rs : List Row} where
       }
 
   -- a `go` by a test that decides the end
-  pub decides : {s : rows.State} (P : Bool → State) (t : Bool) → on (value s c) ≡ t → Ends (drop m rs) s (P true) → Ends rs s (P false) → Ends (goes c m ∷ rs) s (P t)
+  pub decides : {s : rows.State} (P : Bool → State) (t : Bool) → on (value s c) ≡ t → Ends (drop m rs) s (P true) → Ends rs s (P false)
+      → Ends (goes c m ∷ rs) s (P t)
   decides P true test a b = jumps test a
   decides P false test a b = stays test b
 
   -- the same where it goes if the test does not hold
-  pub unless : {s : rows.State} (P : Bool → State) (t : Bool) → on (value s c) ≡ not t → Ends (drop m rs) s (P false) → Ends rs s (P true) → Ends (goes c m ∷ rs) s (P t)
+  pub unless : {s : rows.State} (P : Bool → State) (t : Bool) → on (value s c) ≡ not t → Ends (drop m rs) s (P false) → Ends rs s (P true)
+      → Ends (goes c m ∷ rs) s (P t)
   unless P true test a b = stays test b
   unless P false test a b = jumps test a
 

@@ -1,17 +1,18 @@
 -- The rows of the interrupt test and of op 6, which switches it.
 -- Assumes nothing.
-use mathlib.Core.Path.{_≡_, refl, ap}
+use mathlib.Core.Path.{_≡_, refl, ap, _∙_}
 use mathlib.Core.Bool.{Bool, true, false, not, _&&_}
 use Prim.Native.Nat.{ℕ, _^_, _<_}
 use lib.Dec.{eqb, lit<}
 use Rattle.word.specs.Choice.{on, bit}
 use Rattle.word.specs.Word.{wordBits, complement}
+use Rattle.word.proofs.Choice.{on-bit}
 use Rattle.machine.specs.State.{State, Good, stored, withPc, withEnable}
 use Rattle.machine.specs.Interrupt.{interrupted, interruptTest, inputOutput, ion, iof}
 use Rattle.pdp8_rows.specs.Shipped.{rows·interrupt, rows·iot}
 use Rattle.pdp8_rows.proofs.Held.{Work, Fit, held}
 use Rattle.pdp8_rows.proofs.Ends.{Ends, past, acts, idles, jumps, stays}
-use Rattle.pdp8_rows.proofs.Bits.{of-bit, over, test, word-kept}
+use Rattle.pdp8_rows.proofs.Bits.{of-bit, negated, test, word-kept}
 
 module _ {o : State} {w : Work} (f : Fit w) where
   -- "M[0] = PC, PC = 1, INTERRUPT.ENABLE = 0"
@@ -28,23 +29,27 @@ module _ {o : State} {w : Work} (f : Fit w) where
   pub ends-interrupt : o .pc < 2 ^ wordBits → o .enable < 2 → o .request < 2 → Ends rows·interrupt (held o w) (interruptTest o)
   unfolding interruptTest
   ends-interrupt counted enabled requested =
-      interrupts counted (on (o .enable)) (on (o .request)) (test (over (of-bit (o .enable) enabled))) (test (over (of-bit (o .request) requested)))
+      interrupts counted (on (o .enable)) (on (o .request)) (test (negated (of-bit (o .enable) enabled))) (test (negated (of-bit (o .request) requested)))
+
+-- a test that came out so, as the rows see it
+seen-as : {t u : Bool} → t ≡ u → on (bit t) ≡ u
+seen-as {t} {u} e = on-bit t ∙ e
 
 -- op 6 by the two words that it knows
-module _ {o : State} {w : Work} (f : Fit w) (g : Good o) where
+module _ {o : State} {w : Work} (g : Good o) (f : Fit w) where
   switches : (first second : Bool) → eqb (w .i) ion ≡ first → eqb (w .i) iof ≡ second
       → Ends rows·iot (held o w) (elim first [ true ↦ withEnable 1 o | false ↦ interruptTest (elim second [ true ↦ withEnable 0 o | false ↦ o ]) ])
   switches true second p q =
-      acts (held (withEnable 1 o) w) (ap (λ (t : Bool). on (bit t)) p) refl (jumps (ap (λ (t : Bool). on (bit t)) p) (past f))
+      acts (held (withEnable 1 o) w) (seen-as p) refl (jumps (seen-as p) (past f))
   switches false true p q =
-      idles (ap (λ (t : Bool). on (bit t)) p)
-      (stays (ap (λ (t : Bool). on (bit t)) p)
-      (acts (held (withEnable 0 o) w) (ap (λ (t : Bool). on (bit t)) q) refl
+      idles (seen-as p)
+      (stays (seen-as p)
+      (acts (held (withEnable 0 o) w) (seen-as q) refl
       (jumps refl (ends-interrupt f (g .pc) (lit< tt) (g .request)))))
   switches false false p q =
-      idles (ap (λ (t : Bool). on (bit t)) p)
-      (stays (ap (λ (t : Bool). on (bit t)) p)
-      (idles (ap (λ (t : Bool). on (bit t)) q)
+      idles (seen-as p)
+      (stays (seen-as p)
+      (idles (seen-as q)
       (jumps refl (ends-interrupt f (g .pc) (g .enable) (g .request)))))
 
   pub ends-iot : Ends rows·iot (held o w) (inputOutput (w .i) o)

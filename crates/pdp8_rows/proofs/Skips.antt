@@ -23,7 +23,7 @@ use Rattle.operate.specs.Operate.{cleared, sign, skipsPlain, skipsReversed, ski
 use Rattle.pdp8_rows.specs.Shipped.{rows·group2, rows·inverted, rows·decided}
 use Rattle.pdp8_rows.proofs.Held.{Work, Fit, held, skipping, skipping-fit}
 use Rattle.pdp8_rows.proofs.Ends.{Ends, seen, acts, moved, jumps, decides}
-use Rattle.pdp8_rows.proofs.Bits.{of-test, of-bit, of-zero, over, both, test, set-where, ac-stored, ac-cleared}
+use Rattle.pdp8_rows.proofs.Bits.{of-test, of-bit, of-zero, negated, both, test, set-where, ac-stored, ac-cleared}
 use Rattle.pdp8_rows.proofs.Interrupts.{ends-interrupt}
 
 module _ {o : State} {w : Work} (g : Good o) (f : Fit w) where
@@ -97,9 +97,9 @@ module _ {o : State} {w : Work} (g : Good o) (f : Fit w) where
   ends-inverted : Ends rows·inverted (skip-is false) (interruptTest (decided (skipsReversed i lac)))
   ends-inverted =
       selects false none (test (of-zero (bits wordBits 5 7 i)))
-      (selects none spa (both (of-bit (flag 5 i) (omega arith)) (over (of-bit (sign lac) (omega arith))))
+      (selects none spa (both (of-bit (flag 5 i) (omega arith)) (negated (of-bit (sign lac) (omega arith))))
       (selects (none || spa) sna (both (of-bit (flag 6 i) (omega arith)) (of-test (on (ac lac))))
-      (selects (none || spa || sna) szl (both (of-bit (flag 7 i) (omega arith)) (over (of-bit (link lac) (omega arith))))
+      (selects (none || spa || sna) szl (both (of-bit (flag 7 i) (omega arith)) (negated (of-bit (link lac) (omega arith))))
       (ends-decided (skipsReversed i lac)))))
 
   -- from the row below its first, which leaves the third group apart

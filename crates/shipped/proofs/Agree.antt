@@ -3,7 +3,7 @@
 use mathlib.Core.Path.{_≡_, sym, ap, _∙_, subst}
 use mathlib.Core.List.{List, []}
 use Prim.Native.Nat.{ℕ}
-use Rattle.state.specs.Refusals.{reasonNumber}
+use Rattle.state.specs.Refusals.{reasonNumber, numberOf, placeOf}
 use Rattle.state.specs.Checks.{checkState}
 use Rattle.state.specs.declared.Refusal.{Refusal}
 use Rattle.state.specs.declared.Verdict.{Verdict}
@@ -29,6 +29,7 @@ use Rattle.shipped.proofs.Starts.{workOf, start-held, start-good, work-
 passed : {A : Type 0} (v : Verdict) (ran : A) (refused : Refusal → A) → v ≡ Fit → elim v [ Fit ↦ ran | Unfit why ↦ refused why ] ≡ ran
 passed {A} v ran refused e = ap {B = A} (λ (u : Verdict). elim u [ Fit ↦ ran | Unfit why ↦ refused why ]) e
 
+-- the reports of two runs that end alike
 same-answers : {a : steps.Run} {b : cycles.Run} (list : List ℕ) → Alike a b → Same (emulator.finished a) (evaluator.finished b list)
 same-answers list e =
     record {
@@ -50,7 +51,7 @@ module _ {m : Machine} {registers memory : List ℕ} {budget : ℕ} {list : List
   evaluated =
       ap (λ (a : text.Answer). evaluateOf a registers memory budget list) shipped-accepted
       ∙ passed (check shipped registers memory budget list) (evaluator.finished (cyclesOf registers memory budget) list)
-      (λ why. evaluator.refused (Rattle.state.specs.Refusals.numberOf why) (Rattle.state.specs.Refusals.placeOf why) registers memory list)
+      (λ why. evaluator.refused (numberOf why) (placeOf why) registers memory list)
       (evaluator-passes s)
 
   ends-alike : Alike (steps.run budget (start m memory)) (cyclesOf registers memory budget)

@@ -2,4 +2,3 @@ pub mod Starts
 pub mod Agree
 pub mod Unrefused
 pub mod Instances
-mod Answers

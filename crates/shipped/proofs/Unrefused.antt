@@ -1,4 +1,5 @@
--- The claim wherever the evaluator does not refuse: its checks find nothing only at a start that meets document 01's conditions.
+-- The claim wherever the evaluator does not refuse: its checks find nothing only at a start that meets document 01's conditions. So it is said of the two
+-- programs' own answers.
 -- Assumes nothing.
 use mathlib.Core.Path.{_≡_, refl, sym, ap, _∙_, subst}
 use mathlib.Core.List.{List}
@@ -19,10 +20,11 @@ use Rattle.description.specs.Description as text
 use Rattle.evaluator.specs.Evaluate.{Report, refused, finished, widthsOf, check, evaluateOf, evaluate}
 use Rattle.pdp8_rows.specs.Text.{shippedText}
 use Rattle.pdp8_rows.specs.Shipped.{shipped}
-use Rattle.shipped.specs.Claim.{machinePart, Start, Same, cyclesOf, Claim}
+use Rattle.shipped.specs.Claim.{machinePart, Start, Same, cyclesOf, Claim, Together}
 use Rattle.pdp8_rows.proofs.Accepted.{shipped-accepted}
 use Rattle.shipped.proofs.Agree.{runs-agree}
 
+-- a check by which nothing was refused found nothing
 abbrev number : Report → ℕ
 number r = r .number
 
@@ -32,6 +34,7 @@ passes Fit ran registers memory list e = refl
 passes (Unfit why) ran registers memory list e = absurd (numbered why e)
 
 module _ (m : Machine) (registers memory : List ℕ) (budget : ℕ) (list : List ℕ) where
+  -- what passes the evaluator's checks is a start
   start-of : length registers ≡ mostRegisters → machinePart registers ≡ values m → check shipped registers memory budget list ≡ Fit
       → Start m registers memory budget list
   start-of places machine e =
@@ -59,9 +62,21 @@ module _ (m : Machine) (registers memory : List ℕ) (budget : ℕ) (list : List
   unrefused-agree places machine e = runs-agree m registers memory budget list (start-of places machine (unrefused e))
 
   -- the same of two answers that are what the definitions give, as the entries' contracts say of theirs
-  pub answers-agree : length registers ≡ mostRegisters → machinePart registers ≡ values m
+  answers-agree : length registers ≡ mostRegisters → machinePart registers ≡ values m
       → (a : emulator.Report) (b : Report) → a ≡ emulate m memory budget → b ≡ evaluate shippedText registers memory budget list
       → b .number ≡ 0 → Same a b
   answers-agree places machine a b p q e =
       subst (λ (x : emulator.Report). Same x b) (sym p)
       (subst (λ (y : Report). Same (emulate m memory budget) y) (sym q) (unrefused-agree places machine (ap number (sym q) ∙ e) .same))
+
+-- and of answers that two memories gave, wherever these hold the same words
+pub together : (m : Machine) (registers first second : List ℕ) (budget : ℕ) (list : List ℕ) (a : emulator.Report) (b : Report)
+    → length registers ≡ mostRegisters → a ≡ emulate m first budget → b ≡ evaluate shippedText registers second budget list
+    → Together m registers first second budget list a b
+together m registers first second budget list a b places p q =
+    record {
+      emulated = p;
+      evaluated = q;
+      agree = λ same machine none.
+          answers-agree m registers first budget list places machine a b p (q ∙ ap (λ (l : List ℕ). evaluate shippedText registers l budget list) same) none;
+    }

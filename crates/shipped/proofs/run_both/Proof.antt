@@ -1,5 +1,5 @@
 -- `shipped::run_both`: the claim of the two programs' own answers.
-use Rattle.shipped.proofs.Answers.{together}
+use Rattle.shipped.proofs.Unrefused.{together}
 use borrow.Author.Needs.{needs}
 use Rattle.shipped.proofs.run_both.Statement.{statement}
 use Rattle.shipped.proofs.run_both.Tie as tie
@@ -21,9 +21,13 @@ same-length-3 c = search needs
 
 returns : tie.Need-returns
 returns c =
-    let a = c .before .before .before .before .before .before .before .before .before .before .before .before .before .before .args in
-    let g = c .before .before .before .before .before .before .before .before .before .before .before .before .before .before .good .1 .1 .1 .0 in
-    together (a .m) (a .registers .values) (a .first .now) (a .second .now) (a .budget) (a .rows .now) _ _ (search needs) (c .before .before .before .before .before .before .before .before .before .emulate .ensures) (c .before .before .before .before .evaluate-shipped .ensures)
+    let evaluated = c .before .before .before .before in
+    let emulated = evaluated .before .before .before .before .before in
+    let start = emulated .before .before .before .before .before in
+    let a = start .args in
+    let sixteen = start .good .1 .1 .1 .0 in
+    together (a .m) (a .registers .values) (a .first .now) (a .second .now) (a .budget) (a .rows .now) _ _ (search needs)
+    (emulated .emulate .ensures) (evaluated .evaluate-shipped .ensures)
 
 pub run-both-spec : {M : Type 1} → statement M
 run-both-spec =

@@ -184,29 +184,6 @@ module _ (all : ℕ) (p : Progress) (l : Line) (ls : List Line) (h : Kept all p 
   unfolding atLine
   at-kept r a = by-case (After all ls) (hasFields 2 s) (λ t. label-kept r a (field 1 s)) (λ t. tt)
 
-  -- a row more
-  row-kept : isRow s ≡ true → same (field 0 s) atWord ≡ false → (row : Row) (gone : ℕ) → FormedRow (p .registers) row → Lands row (rowsIn ls)
-      → After all ls (addRow p row gone)
-  unfolding addRow
-  row-kept r a row gone f lands =
-      by-case (After all ls) (ltb (length (p .rows)) mostRows && leb (p .pieces + rowPieces row) allPieces)
-      (λ t.
-      let j = and-left (ltb (length (p .rows)) mostRows) (leb (p .pieces + rowPieces row) allPieces) t in
-      let k = and-right (ltb (length (p .rows)) mostRows) (leb (p .pieces + rowPieces row) allPieces) t in
-      record {
-        few-registers = h .few-registers;
-        registers-fit = h .registers-fit;
-        few-labels = h .few-labels;
-        few-rows = omega (arith, length-append (p .rows) (row ∷ []), ltb-true (length (p .rows)) mostRows j);
-        pieces-are = omega (arith, h .pieces-are, pieces-snoc (p .rows) row);
-        few-pieces = leb-true (p .pieces + rowPieces row) allPieces k;
-        rows-formed = rows-snoc (p .registers) (p .rows) row (h .rows-formed) f;
-        lower = lower-snoc (p .rows) row (rowsIn ls) (subst (λ (n : ℕ). Lower n (p .rows)) (row-counted l ls r) (h .lower)) lands;
-        unbegun = λ e. absurd (mathlib.Core.Bool.false≢true (sym e));
-        labels-left = subst (λ (n : ℕ). length (p .labels) + n ≡ all) (label-uncounted l ls a) (h .labels-left);
-      })
-      (λ t. tt)
-
   abbrev rs : List Named
   rs = p .registers
 
@@ -223,38 +200,62 @@ module _ (all : ℕ) (p : Progress) (l : Line) (ls : List Line) (h : Kept all p 
   do-row-formed (read c x) d outside i j k = tt
   do-row-formed outside d e i j k = tt
 
-  with-kept : isRow s ≡ true → same (field 0 s) atWord ≡ false → (x : RowReading) → FormedReading x → After all ls (withRow p x)
-  unfolding withRow
-  with-kept r a (formed row) f = row-kept r a row (p .missing) (f .0) (f .1)
-  with-kept r a unformed f = tt
+  -- lines of rows
+  module _ (r : isRow s ≡ true) (a : same (field 0 s) atWord ≡ false) where
+    -- a row more
+    row-kept : (row : Row) (gone : ℕ) → FormedRow (p .registers) row → Lands row (rowsIn ls) → After all ls (addRow p row gone)
+    unfolding addRow
+    row-kept row gone f lands =
+        by-case (After all ls) (ltb (length (p .rows)) mostRows && leb (p .pieces + rowPieces row) allPieces)
+        (λ t.
+        let j = and-left (ltb (length (p .rows)) mostRows) (leb (p .pieces + rowPieces row) allPieces) t in
+        let k = and-right (ltb (length (p .rows)) mostRows) (leb (p .pieces + rowPieces row) allPieces) t in
+        record {
+          few-registers = h .few-registers;
+          registers-fit = h .registers-fit;
+          few-labels = h .few-labels;
+          few-rows = omega (arith, length-append (p .rows) (row ∷ []), ltb-true (length (p .rows)) mostRows j);
+          pieces-are = omega (arith, h .pieces-are, pieces-snoc (p .rows) row);
+          few-pieces = leb-true (p .pieces + rowPieces row) allPieces k;
+          rows-formed = rows-snoc (p .registers) (p .rows) row (h .rows-formed) f;
+          lower = lower-snoc (p .rows) row (rowsIn ls) (subst (λ (n : ℕ). Lower n (p .rows)) (row-counted l ls r) (h .lower)) lands;
+          unbegun = λ e. absurd (mathlib.Core.Bool.false≢true (sym e));
+          labels-left = subst (λ (n : ℕ). length (p .labels) + n ≡ all) (label-uncounted l ls a) (h .labels-left);
+        })
+        (λ t. tt)
 
-  do-kept : isRow s ≡ true → same (field 0 s) atWord ≡ false → After all ls (doLine p s)
-  unfolding doLine
-  do-kept r a =
-      by-case (After all ls) (hasFields 4 s)
-      (λ t.
-      let c = expression rs (field 1 s) in
-      let d = destination rs (field 2 s) in
-      let e = expression rs (field 3 s) in
-      with-kept r a (doRow c d e) (do-row-formed c d e (expression-formed rs (field 1 s)) (destination-formed rs (field 2 s)) (expression-formed rs (field 3 s))))
-      (λ t. tt)
+    with-kept : (x : RowReading) → FormedReading x → After all ls (withRow p x)
+    unfolding withRow
+    with-kept (formed row) f = row-kept row (p .missing) (f .0) (f .1)
+    with-kept unformed f = tt
 
-  -- a `go` row
-  go-row-kept : isRow s ≡ true → same (field 0 s) atWord ≡ false → (n : ℕ) (label : List ℕ) (c : Reading) → Reads (Accepted rs) c
-      → After all ls (goRow p n label (passes label ls) c)
-  unfolding goRow
-  go-row-kept r a n label (read c x) f =
-      by-case (After all ls) (isName label)
-      (λ t. row-kept r a (goes c (rowsPassed (passes label ls))) (missingAt (passes label ls) n (p .missing)) f (passes-le label ls))
-      (λ t. tt)
-  go-row-kept r a n label outside f = tt
+    do-kept : After all ls (doLine p s)
+    unfolding doLine
+    do-kept =
+        by-case (After all ls) (hasFields 4 s)
+        (λ t.
+        let c = expression rs (field 1 s) in
+        let d = destination rs (field 2 s) in
+        let e = expression rs (field 3 s) in
+        with-kept (doRow c d e)
+        (do-row-formed c d e (expression-formed rs (field 1 s)) (destination-formed rs (field 2 s)) (expression-formed rs (field 3 s))))
+        (λ t. tt)
 
-  go-kept : isRow s ≡ true → same (field 0 s) atWord ≡ false → (n : ℕ) → After all ls (goLine p n ls s)
-  unfolding goLine
-  go-kept r a n =
-      by-case (After all ls) (hasFields 3 s)
-      (λ t. go-row-kept r a n (field 2 s) (expression rs (field 1 s)) (expression-formed rs (field 1 s)))
-      (λ t. tt)
+    -- a `go` row
+    go-row-kept : (n : ℕ) (label : List ℕ) (c : Reading) → Reads (Accepted rs) c → After all ls (goRow p n label (passes label ls) c)
+    unfolding goRow
+    go-row-kept n label (read c x) f =
+        by-case (After all ls) (isName label)
+        (λ t. row-kept (goes c (rowsPassed (passes label ls))) (missingAt (passes label ls) n (p .missing)) f (passes-le label ls))
+        (λ t. tt)
+    go-row-kept n label outside f = tt
+
+    go-kept : (n : ℕ) → After all ls (goLine p n ls s)
+    unfolding goLine
+    go-kept n =
+        by-case (After all ls) (hasFields 3 s)
+        (λ t. go-row-kept n (field 2 s) (expression rs (field 1 s)) (expression-formed rs (field 1 s)))
+        (λ t. tt)
 
   -- a line
   abbrev word : List ℕ

@@ -151,7 +151,6 @@ module _ (rs : List Named) (s : List ℕ) (r : RowRead) (from : Cursor) (before 
       → HasRow (doRow (expression rs (field 1 s)) d v) r from before after
   with-condition c x f d v e i h = rw (← e, i) h
 
-  pub without-row : (c : Expr) (x : ℕ) (f : List ℕ) (d : Destination) (v : Reading) → f ≡ field 1 s → expression rs f ≡ read c x
-      → doRow (read c x) d v ≡ unformed
-      → doRow (expression rs (field 1 s)) d v ≡ unformed
-  without-row c x f d v e i h = rw (← e, i) h
+pub without-row : (rs : List Named) (s : List ℕ) (c : Expr) (x : ℕ) (f : List ℕ) (d : Destination) (v : Reading) → f ≡ field 1 s
+    → expression rs f ≡ read c x → doRow (read c x) d v ≡ unformed → doRow (expression rs (field 1 s)) d v ≡ unformed
+without-row rs s c x f d v e i h = rw (← e, i) h

@@ -62,7 +62,7 @@ returns c =
           with-condition rs (a .line .now) (c .read-action .result) (a .from) (a .code .now) after (k .tree) (k .place) f d v (first .ensures) (k .is)
           (c .read-action .ensures .forms t (k .tree) (k .place) w (a .from) (a .code .now) refl (k .held));
       lacks = λ t.
-          without-row rs (a .line .now) (c .read-action .result) (a .from) (a .code .now) after (k .tree) (k .place) f d v (first .ensures) (k .is)
+          without-row rs (a .line .now) (k .tree) (k .place) f d v (first .ensures) (k .is)
           (c .read-action .ensures .lacks t (k .tree) (k .place));
     }
 

@@ -36,7 +36,7 @@ use Rattle.line.specs.Line.{readLine, Rest}
 use Rattle.description.specs.declared.reader.Answer as reader
 use Rattle.description.specs.declared.reader.Verdict.{Verdict}
 use Rattle.description.specs.declared.reader.Verdict.the-variants as verdict
-use Rattle.description.specs.Description.{Answer, accepted, turnedDown, header, runName, nothing, hasRun, finished, readLines, readText}
+use Rattle.description.specs.Description.{Answer, turnedDown, header, runName, nothing, hasRun, finished, readLines, readText}
 use Rattle.description.specs.Stored.{unread, answerBy, Finishes, Tells, Answers}
 
 -- what is left of a text
@@ -64,28 +64,18 @@ rest-after text rest r =
     (rest-drop text (length text - length rest + (until lineFeed rest + 1)))
 
 -- after all lines
-module _ (p : Progress) (n : ℕ) where
-  finished-missing : eqb (p .missing) 0 ≡ false → finished p n ≡ turnedDown Label (p .missing)
-  unfolding finished
-  finished-missing e = rw (e, finished)
-
-  finished-accepted : eqb (p .missing) 0 ≡ true → hasRun (p .registers) ≡ true → finished p n ≡ accepted (record { registers = p .registers; rows = p .rows })
-  unfolding finished
-  finished-accepted e f = rw (e, f, finished)
-
-  finished-without : eqb (p .missing) 0 ≡ true → hasRun (p .registers) ≡ false → finished p n ≡ turnedDown Run n
-  unfolding finished
-  finished-without e f = rw (e, f, finished)
-
 module _ (text : List ℕ) (q : code.Progress) (n : ℕ) where
   pub label-missing : eqb (q .missing) 0 ≡ false → Finishes text q n (verdict.Refused Label (q .missing))
-  label-missing e rs = finished-missing (progressOf text q rs) n e
+  unfolding finished
+  label-missing e rs = rw (e, finished)
 
   pub all-there : eqb (q .missing) 0 ≡ true → hasRun (entries text (q .registers)) ≡ true → Finishes text q n verdict.Accepted
-  all-there e f rs = finished-accepted (progressOf text q rs) n e f
+  unfolding finished
+  all-there e f rs = rw (e, f, finished)
 
   pub no-run : eqb (q .missing) 0 ≡ true → hasRun (entries text (q .registers)) ≡ false → Finishes text q n (verdict.Refused Run n)
-  no-run e f rs = finished-without (progressOf text q rs) n e f
+  unfolding finished
+  no-run e f rs = rw (e, f, finished)
 
 -- line by line
 module _ (p : Progress) (n : ℕ) (l : fields.Line) (ls : List fields.Line) where

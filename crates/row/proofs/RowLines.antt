@@ -195,36 +195,22 @@ module _ (p : Progress) (n : ℕ) (s below : List ℕ) where
   abbrev condition : Reading
   condition = expression (p .registers) (field 1 s)
 
-  go-fields : hasFields 3 s ≡ true → goLine p n (lines below) s ≡ goRow p n (field 2 s) target condition
-  unfolding goLine
-  go-fields t = rw (t, goLine)
-
   pub go-malformed : hasFields 3 s ≡ false → goLine p n (lines below) s ≡ refused Line
   unfolding goLine
   go-malformed t = rw (t, goLine)
 
-  go-by : (l : List ℕ) (t : Target) (c : Expr) (x : ℕ) → isName l ≡ true
-      → goRow p n l t (read c x) ≡ addRow p (goes c (rowsPassed t)) (missingAt t n (p .missing))
-  unfolding goRow
-  go-by l t c x u = rw (u, goRow)
-
-  go-nameless : (l : List ℕ) (t : Target) (c : Expr) (x : ℕ) → isName l ≡ false → goRow p n l t (read c x) ≡ refused Label
-  unfolding goRow
-  go-nameless l t c x u = rw (u, goRow)
-
-  go-faulty : (l : List ℕ) (t : Target) → goRow p n l t outside ≡ refused Expression
-  unfolding goRow
-  go-faulty l t = refl
-
   go-taken : (c : Expr) (x : ℕ) → hasFields 3 s ≡ true → condition ≡ read c x → isName (field 2 s) ≡ true
       → goLine p n (lines below) s ≡ addRow p (goes c (rowsPassed target)) (missingAt target n (p .missing))
-  go-taken c x t e u = go-fields t ∙ ap (goRow p n (field 2 s) target) e ∙ go-by (field 2 s) target c x u
+  unfolding goLine goRow
+  go-taken c x t e u = rw (t, e, u, goRow, goLine)
 
   go-unnamed : (c : Expr) (x : ℕ) → hasFields 3 s ≡ true → condition ≡ read c x → isName (field 2 s) ≡ false → goLine p n (lines below) s ≡ refused Label
-  go-unnamed c x t e u = go-fields t ∙ ap (goRow p n (field 2 s) target) e ∙ go-nameless (field 2 s) target c x u
+  unfolding goLine goRow
+  go-unnamed c x t e u = rw (t, e, u, goRow, goLine)
 
   pub go-unread : hasFields 3 s ≡ true → condition ≡ outside → goLine p n (lines below) s ≡ refused Expression
-  go-unread t e = go-fields t ∙ ap (goRow p n (field 2 s) target) e ∙ go-faulty (field 2 s) target
+  unfolding goLine goRow
+  go-unread t e = rw (t, e, goRow, goLine)
 
 -- the cells of a `go` are those of its row
 go-forms : (q : code.Progress) (c : Expr) (x : ℕ) (end : Cursor) (w passed : ℕ) (now after : List ℕ) → Held c x end w (before q) now after
@@ -292,27 +278,17 @@ module _ (p : Progress) (s : List ℕ) where
   abbrev reading : RowReading
   reading = doRow (expression (p .registers) (field 1 s)) (destination (p .registers) (field 2 s)) (expression (p .registers) (field 3 s))
 
-  do-fields : hasFields 4 s ≡ true → doLine p s ≡ withRow p reading
-  unfolding doLine
-  do-fields t = rw (t, doLine)
-
   pub do-malformed : hasFields 4 s ≡ false → doLine p s ≡ refused Line
   unfolding doLine
   do-malformed t = rw (t, doLine)
 
-  with-formed : (row : Row) → withRow p (formed row) ≡ addRow p row (p .missing)
-  unfolding withRow
-  with-formed row = refl
-
-  with-unformed : withRow p unformed ≡ refused Expression
-  unfolding withRow
-  with-unformed = refl
-
   do-taken : (row : Row) → hasFields 4 s ≡ true → reading ≡ formed row → doLine p s ≡ addRow p row (p .missing)
-  do-taken row t e = do-fields t ∙ ap (withRow p) e ∙ with-formed row
+  unfolding doLine withRow
+  do-taken row t e = rw (t, e, withRow, doLine)
 
   do-unread : hasFields 4 s ≡ true → reading ≡ unformed → doLine p s ≡ refused Expression
-  do-unread t e = do-fields t ∙ ap (withRow p) e ∙ with-unformed
+  unfolding doLine withRow
+  do-unread t e = rw (t, e, withRow, doLine)
 
 -- a `do` line: the row that was read, if one was
 pub do-assigned : (text : List ℕ) (q : code.Progress) → Within q → (line : List ℕ) → hasFields 4 line ≡ true

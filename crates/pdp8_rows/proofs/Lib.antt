@@ -1,12 +1,12 @@
 pub mod Accepted
 pub mod Held
-pub mod Plain
-pub mod Ends
-pub mod Bits
-pub mod Interrupts
-pub mod References
-pub mod Addresses
-pub mod Skips
-pub mod Operates
+mod Plain
+mod Ends
+mod Bits
+mod Interrupts
+mod References
+mod Addresses
+mod Skips
+mod Operates
 pub mod Cycles
 pub mod Runs

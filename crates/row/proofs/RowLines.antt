@@ -91,9 +91,10 @@ module _ (p : Progress) (row : Row) (gone : ℕ) where
   abbrev fits : Bool
   fits = ltb (length (p .rows)) mostRows && leb (p .pieces + rowPieces row) allPieces
 
-  row-added : fits ≡ true
-      → addRow p row gone
-      ≡ next (record { registers = p .registers; labels = p .labels; rows = p .rows ++ (row ∷ []); pieces = p .pieces + rowPieces row; begun = true; missing = gone })
+  abbrev longer : ℕ → Progress
+  longer counted = record { registers = p .registers; labels = p .labels; rows = p .rows ++ (row ∷ []); pieces = counted; begun = true; missing = gone }
+
+  row-added : fits ≡ true → addRow p row gone ≡ next (longer (p .pieces + rowPieces row))
   unfolding addRow
   row-added t = rw (t, addRow)
 
@@ -112,8 +113,8 @@ abbrev pub before : code.Progress → Cursor
 before q = record { place = 0; words = q .words; pieces = q .pieces }
 
 -- a row that was read and put into the table, if there is room
-module _ (text : List ℕ) (q : code.Progress) (h : Within q) (row : Row) (cs : List ℕ) (end : Cursor) (gone : ℕ) (r : taken.Step) {code₁ code₂ table₁ table₂ : List ℕ}
-    (forms : Forming row cs end (before q) code₁ code₂) (put : Put q cs end gone r table₁ table₂) where
+module _ (text : List ℕ) (q : code.Progress) (h : Within q) (row : Row) (cs : List ℕ) (end : Cursor) (gone : ℕ) (r : taken.Step)
+    {code₁ code₂ table₁ table₂ : List ℕ} (forms : Forming row cs end (before q) code₁ code₂) (put : Put q cs end gone r table₁ table₂) where
   abbrev room : Bool
   room = hasRoom q end
 
@@ -135,11 +136,7 @@ module _ (text : List ℕ) (q : code.Progress) (h : Within q) (row : Row) (cs : 
         rows = rs ++ (row ∷ []);
         is =
             row-added (progressOf text q rs) row gone (row-room rs t ∙ u)
-            ∙ ap
-            (λ (n : ℕ).
-            next
-            (record { registers = entries text (q .registers); labels = entries text (q .labels); rows = rs ++ (row ∷ []); pieces = n; begun = true; missing = gone }))
-            (sym (forms .pieces-are));
+            ∙ ap (λ (n : ℕ). next (longer (progressOf text q rs) row gone n)) (sym (forms .pieces-are));
         holds = λ k.
             tables-more rs row t (forms .code-is) (forms .words-are)
             (put .table-is
@@ -256,7 +253,8 @@ pub not-so : (b : Bool) {P : Type 0} → b ≡ true → b ≡ false → P
 not-so b e f = absurd (mathlib.Core.Bool.false≢true (sym f ∙ e))
 
 -- a `go` by the label that the code holds
-module _ (q : code.Progress) (n : ℕ) (label held : List ℕ) (below : List text.Line) (second : held ≡ label) (end : Cursor) (r : taken.Step) {table₁ table₂ : List ℕ} where
+module _ (q : code.Progress) (n : ℕ) (label held : List ℕ) (below : List text.Line) (second : held ≡ label) (end : Cursor) (r : taken.Step)
+    {table₁ table₂ : List ℕ} where
   pub jumps : isName held ≡ true → (t : Target) → t ≡ passes held below → (passed gone : ℕ) → passed ≡ rowsPassed t → gone ≡ missingAt t n (q .missing)
       → (cs : List ℕ) → cs ≡ goCells (q .words) (end .words) passed → Put q cs end gone r table₁ table₂ → Jumps q n label below end r table₁ table₂
   jumps named t there passed gone i j cs e put =
@@ -301,4 +299,7 @@ do-assigned text q h line fields x r rows a =
     takes-as text (λ (p : Progress). doLine p line) (λ (p : Progress). addRow p (rows .forms u .row) (q .missing)) q r
     (λ rs. do-taken (progressOf text q rs) line (rows .forms u .row) fields (rows .forms u .is))
     (takes-row text q h (rows .forms u .row) (x .cells) (x .end) (q .missing) r (rows .forms u .forms) (a .added u)))
-    (λ u. takes-refused text (λ (p : Progress). doLine p line) q Expression r (a .lost u) (λ rs. do-unread (progressOf text q rs) line fields (rows .lacks u)) h)
+    (λ u.
+    takes-refused text (λ (p : Progress). doLine p line) q Expression r (a .lost u)
+    (λ rs. do-unread (progressOf text q rs) line fields (rows .lacks u))
+    h)

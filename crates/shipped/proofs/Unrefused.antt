@@ -24,10 +24,10 @@ use Rattle.shipped.specs.Claim.{machinePart, Start, Same, cyclesOf, Clai
 use Rattle.pdp8_rows.proofs.Accepted.{shipped-accepted}
 use Rattle.shipped.proofs.Agree.{runs-agree}
 
--- a check by which nothing was refused found nothing
 abbrev number : Report → ℕ
 number r = r .number
 
+-- a check by which nothing was refused found nothing
 passes : (v : Verdict) (ran : Report) (registers memory list : List ℕ)
     → number (elim v [ Fit ↦ ran | Unfit why ↦ refused (numberOf why) (placeOf why) registers memory list ]) ≡ 0 → v ≡ Fit
 passes Fit ran registers memory list e = refl

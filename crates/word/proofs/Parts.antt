@@ -10,7 +10,7 @@ use lib.Pow.{pow-pos, pow-add, high, low, shr-shr, mod-mod-pow}
 use Rattle.word.specs.Word.{field, withField, bits, withBits, join}
 
 -- a field fits its bits
-pub field-lt : (p q x : ℕ) → field p q x < 2 ^ q
+field-lt : (p q x : ℕ) → field p q x < 2 ^ q
 field-lt p q x = mod-lt (x / 2 ^ p) (pow-pos q)
 
 -- "@ the sum": a join of j and k bits has j + k
@@ -35,38 +35,35 @@ tail-lt p q x v = join-lt q p (mod-lt v (pow-pos q)) (mod-lt x (pow-pos p))
 -- above the part nothing changes, and in and below it stands the tail
 above : (p q x v : ℕ) → withField p q x v / 2 ^ (q + p) ≡ x / 2 ^ (q + p)
 unfolding tail
-above p q x v = high (x / 2 ^ (q + p)) (q + p) (tail-lt p q x v)
+above p q x v = join-left (q + p) (tail-lt p q x v)
 
 within : (p q x v : ℕ) → withField p q x v % 2 ^ (q + p) ≡ tail p q x v
 unfolding tail
-within p q x v = low (x / 2 ^ (q + p)) (q + p) (tail-lt p q x v)
+within p q x v = join-right (q + p) (x / 2 ^ (q + p)) (tail-lt p q x v)
 
 below : (p q x v : ℕ) → withField p q x v % 2 ^ p ≡ x % 2 ^ p
 unfolding tail
 below p q x v =
     sym (mod-mod-pow (withField p q x v) q p)
     ∙ ap (λ (t : ℕ). t % 2 ^ p) (within p q x v)
-    ∙ low (v % 2 ^ q) p (mod-lt x (pow-pos p))
+    ∙ join-right p (v % 2 ^ q) (mod-lt x (pow-pos p))
 
 -- a stored part is read back, without the left bits that it has no place for
-pub field-stored : (p q x v : ℕ) → field p q (withField p q x v) ≡ v % 2 ^ q
+field-stored : (p q x v : ℕ) → field p q (withField p q x v) ≡ v % 2 ^ q
 unfolding tail
 field-stored p q x v =
-    sym (field-of q p (withField p q x v))
+    sym (lib.Pow.field (withField p q x v) q p)
     ∙ ap (λ (t : ℕ). t / 2 ^ p) (within p q x v)
-    ∙ high (v % 2 ^ q) p (mod-lt x (pow-pos p))
-  where
-    field-of : (j k n : ℕ) → n % 2 ^ (j + k) / 2 ^ k ≡ n / 2 ^ k % 2 ^ j
-    field-of j k n = lib.Pow.field n j k
+    ∙ join-left p (mod-lt x (pow-pos p))
 
 -- a field that stands left of the part, n places above its end, stays
-pub kept-left : (p q n r x v : ℕ) → field (q + p + n) r (withField p q x v) ≡ field (q + p + n) r x
+kept-left : (p q n r x v : ℕ) → field (q + p + n) r (withField p q x v) ≡ field (q + p + n) r x
 kept-left p q n r x v =
     ap (λ (t : ℕ). t % 2 ^ r)
     (sym (shr-shr (withField p q x v) (q + p) n) ∙ ap (λ (t : ℕ). t / 2 ^ n) (above p q x v) ∙ shr-shr x (q + p) n)
 
 -- a field that stands right of the part, n places below its end, stays
-pub kept-right : (k r n q x v : ℕ) → field k r (withField (n + (r + k)) q x v) ≡ field k r x
+kept-right : (k r n q x v : ℕ) → field k r (withField (n + (r + k)) q x v) ≡ field k r x
 kept-right k r n q x v = same (withField (n + (r + k)) q x v) x (below (n + (r + k)) q x v)
   where
     -- a field is read off any remainder that holds it
@@ -77,14 +74,14 @@ kept-right k r n q x v = same (withField (n + (r + k)) q x v) x (below (n + (r +
     same y z e = sym (off y) ∙ ap (λ (t : ℕ). t % 2 ^ (r + k) / 2 ^ k) e ∙ off z
 
 -- a word stays within its width when a part of it is stored
-pub stored-lt : (n p q : ℕ) {x : ℕ} (v : ℕ) → x < 2 ^ (n + (q + p)) → withField p q x v < 2 ^ (n + (q + p))
+stored-lt : (n p q : ℕ) {x : ℕ} (v : ℕ) → x < 2 ^ (n + (q + p)) → withField p q x v < 2 ^ (n + (q + p))
 unfolding tail
 stored-lt n p q {x} v h = join-lt n (q + p) (lib.Pow.shr-lt n (q + p) h) (tail-lt p q x v)
 
 -- the same laws by bit numbers: bits a to b of a word of w bits
 module _ (w a b : ℕ) (ordered : a ≤ b) (inside : b < w) where
   -- the bits left of the part, in the part and right of it make up the word
-  pub places : a + (b - a + 1 + (w - 1 - b)) ≡ w
+  places : a + (b - a + 1 + (w - 1 - b)) ≡ w
   places = omega arith
 
   pub bits-lt : (x : ℕ) → bits w a b x < 2 ^ (b - a + 1)

@@ -5,21 +5,21 @@ use mathlib.Core.Path.{_≡_, sym, ap₂, _∙_, subst}
 use Prim.Native.Nat.{ℕ, _+_, _-_, _*_, _/_, _%_, _^_, _<_}
 use native.Mathlib.Nat.{mod-lt, add-comm}
 use native.Mathlib.Omega.{arith}
-use lib.Pow.{pow-pos, high, low, shr-lt, split}
+use lib.Pow.{pow-pos, shr-lt, split}
 use Rattle.word.specs.Word.{swapped, rotatedLeft, rotatedRight}
-use Rattle.word.proofs.Parts.{join-lt}
+use Rattle.word.proofs.Parts.{join-lt, join-left, join-right}
 
 -- the q bits on the left of p others
 upper : (p q : ℕ) {x : ℕ} → x < 2 ^ (p + q) → x / 2 ^ p < 2 ^ q
 upper p q {x} h = shr-lt q p (subst (λ (n : ℕ). x < 2 ^ n) (add-comm p q) h)
 
-pub swapped-lt : (p q : ℕ) {x : ℕ} → x < 2 ^ (p + q) → swapped p q x < 2 ^ (p + q)
+swapped-lt : (p q : ℕ) {x : ℕ} → x < 2 ^ (p + q) → swapped p q x < 2 ^ (p + q)
 swapped-lt p q {x} h = join-lt p q (mod-lt x (pow-pos p)) (upper p q h)
 
 -- changing places twice is no change
-pub swapped-back : (p q : ℕ) {x : ℕ} → x < 2 ^ (p + q) → swapped q p (swapped p q x) ≡ x
+swapped-back : (p q : ℕ) {x : ℕ} → x < 2 ^ (p + q) → swapped q p (swapped p q x) ≡ x
 swapped-back p q {x} h =
-    ap₂ (λ (a b : ℕ). a * 2 ^ p + b) (low (x % 2 ^ p) q (upper p q h)) (high (x % 2 ^ p) q (upper p q h))
+    ap₂ (λ (a b : ℕ). a * 2 ^ p + b) (join-right q (x % 2 ^ p) (upper p q h)) (join-left q (upper p q h))
     ∙ split x p
 
 module _ (w : ℕ) (some : 0 < w) (n : ℕ) where

@@ -1,7 +1,7 @@
 -- `word::with_part`: no more than 16 bits stand above or below the part, so the sums fit.
 use native.Mathlib.Nat.{div-mul-le-self}
 use native.Mathlib.Omega.{arith}
-use Rattle.word.proofs.Small.{product, rest}
+use Rattle.word.proofs.Small.{rest, rest-product}
 use borrow.Author.Needs.{needs}
 use Rattle.word.proofs.with_part.Statement.{statement}
 use Rattle.word.proofs.with_part.Tie as tie
@@ -42,7 +42,7 @@ rem-result c = search needs
 
 mul-result-2 : tie.Need-mul-result-2
 mul-result-2 c =
-    let h = product (rest (c .before .before .before .args .v) (c .power3 .ensures .positive) (c .power3 .ensures .small)) (c .before .power2 .ensures .small) in
+    let h = rest-product (c .before .before .before .args .v) (c .power3 .ensures) (c .before .power2 .ensures) in
     omega arith
 
 rem-result-2 : tie.Need-rem-result-2
@@ -50,14 +50,14 @@ rem-result-2 c = search needs
 
 add-result : tie.Need-add-result
 add-result c =
-    let h = product (rest (c .before .before .before .args .v) (c .power3 .ensures .positive) (c .power3 .ensures .small)) (c .before .power2 .ensures .small) in
-    let l = rest (c .before .before .before .args .x) (c .before .power2 .ensures .positive) (c .before .power2 .ensures .small) in
+    let h = rest-product (c .before .before .before .args .v) (c .power3 .ensures) (c .before .power2 .ensures) in
+    let l = rest (c .before .before .before .args .x) (c .before .power2 .ensures) in
     omega arith
 
 add-result-2 : tie.Need-add-result-2
 add-result-2 c =
-    let h = product (rest (c .before .before .before .args .v) (c .power3 .ensures .positive) (c .power3 .ensures .small)) (c .before .power2 .ensures .small) in
-    let l = rest (c .before .before .before .args .x) (c .before .power2 .ensures .positive) (c .before .power2 .ensures .small) in
+    let h = rest-product (c .before .before .before .args .v) (c .power3 .ensures) (c .before .power2 .ensures) in
+    let l = rest (c .before .before .before .args .x) (c .before .power2 .ensures) in
     let k = div-mul-le-self (c .before .before .before .args .x) (c .before .before .power .result) in
     omega arith
 

@@ -1,4 +1,4 @@
--- "a step keeps words and registers within their widths": shown here of a change of one register or word, of the interrupt test and of
+-- "a step keeps words and registers within their widths": shown here of a change of one register or of memory, of the interrupt test and of
 -- op 6. The other ops are shown beside their definitions.
 -- Assumes nothing.
 use mathlib.Core.List.{List}
@@ -7,9 +7,10 @@ use Prim.Native.Nat.{ℕ, _^_, _<_}
 use lib.Dec.{eqb, lit<}
 use Rattle.word.specs.Choice.{on}
 use Rattle.word.specs.Word.{wordBits}
+use Rattle.state.specs.Acceptable.{Acceptable}
 use Rattle.state.proofs.Accepted.{store-acceptable}
 use Rattle.machine.specs.declared.Processor.{Processor}
-use Rattle.machine.specs.State.{State, at, Good, Narrow, stored, withLac, withPc, withRun, withEnable, lacBits}
+use Rattle.machine.specs.State.{State, at, Good, Narrow, stored, withLac, withPc, withRun, withEnable, withMemory, lacBits}
 use Rattle.machine.specs.Interrupt.{interruptTest, inputOutput, ion, iof}
 
 pub lac-good : {s : State} {x : ℕ} → x < 2 ^ lacBits → Good s → Good (withLac x s)
@@ -24,21 +25,16 @@ pub run-good : {s : State} {x : ℕ} → x < 2 → Good s → Good (withRun x s)
 run-good h g =
     record { lac = g .lac; pc = g .pc; run = h; enable = g .enable; request = g .request; switches = g .switches; memory = g .memory }
 
-pub enable-good : {s : State} {x : ℕ} → x < 2 → Good s → Good (withEnable x s)
+enable-good : {s : State} {x : ℕ} → x < 2 → Good s → Good (withEnable x s)
 enable-good h g =
     record { lac = g .lac; pc = g .pc; run = g .run; enable = h; request = g .request; switches = g .switches; memory = g .memory }
 
+pub memory-good : {s : State} {memory : List ℕ} → Acceptable memory → Good s → Good (withMemory memory s)
+memory-good h g =
+    record { lac = g .lac; pc = g .pc; run = g .run; enable = g .enable; request = g .request; switches = g .switches; memory = h }
+
 pub stored-good : {s : State} (a : ℕ) {x : ℕ} → x < 2 ^ wordBits → Good s → Good (stored a x s)
-stored-good a h g =
-    record {
-      lac = g .lac;
-      pc = g .pc;
-      run = g .run;
-      enable = g .enable;
-      request = g .request;
-      switches = g .switches;
-      memory = store-acceptable a h (g .memory);
-    }
+stored-good a h g = memory-good (store-acceptable a h (g .memory)) g
 
 -- a case by a test is good where both of its ways are
 pub either : (b : Bool) {s t : State} → Good s → Good t → Good (elim b [ true ↦ s | false ↦ t ])

@@ -20,5 +20,6 @@ withAc-lt h q = omega arith
 pub withoutAc-lt : {lac : ℕ} → lac < 2 ^ lacBits → withoutAc lac < 2 ^ lacBits
 withoutAc-lt h = omega arith
 
-pub sum-narrow : (x : ℕ) → x % 2 ^ lacBits < 2 ^ lacBits
-sum-narrow x = omega arith
+-- a number modulo 8,192
+pub wrapped-lt : (x : ℕ) → x % 2 ^ lacBits < 2 ^ lacBits
+wrapped-lt x = omega arith

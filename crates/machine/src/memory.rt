@@ -12,6 +12,7 @@ pub fn load(memory: &[u16], address: u64) -> u64
     widened(memory[address as usize])
 }
 
+// A word as such a number.
 fn widened(x: u16) -> u64
     ensures { λ r. ⌜ r ≡ x ⌝ }
 {

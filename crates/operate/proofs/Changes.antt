@@ -1,4 +1,5 @@
--- LAC stays within its 13 bits at each change that op 7 makes of it; most of its instructions ask for few of them.
+-- LAC stays within its 13 bits at each change that op 7 makes of it. The code makes the changes by sums and by parts of the instruction; these
+-- come to the definition's tests.
 -- Assumes nothing.
 use mathlib.Core.Path.{_≡_, refl}
 use Prim.Native.Nat.{ℕ, zero, suc, _+_, _%_, _^_, _<_}
@@ -12,7 +13,7 @@ use Rattle.word.proofs.Complement.{complement-lt}
 use Rattle.word.proofs.Rotation.{rotatedLeft-lt, rotatedRight-lt}
 use Rattle.machine.specs.State.{lacBits, ac}
 use Rattle.machine.specs.Instruction.{flag}
-use Rattle.machine.proofs.Lac.{ac-lt, withAc-lt, withoutAc-lt, sum-narrow}
+use Rattle.machine.proofs.Lac.{ac-lt, withAc-lt, withoutAc-lt, wrapped-lt}
 use Rattle.operate.specs.Operate.{cleared, linkCleared, complemented, linkComplemented, increased, places, turnedLeft, turnedRight, rotated, changed, switched}
 
 abbrev Narrow : ℕ → Type 0
@@ -28,7 +29,7 @@ pub complemented-lt : (i : ℕ) {lac : ℕ} → Narrow lac → Narrow (complemen
 complemented-lt i {lac} h = choose-either Narrow (flag 6 i) (withAc-lt h (complement-lt wordBits (ac lac))) h
 
 pub linkComplemented-lt : (i : ℕ) {lac : ℕ} → Narrow lac → Narrow (linkComplemented i lac)
-linkComplemented-lt i {lac} h = choose-either Narrow (flag 7 i) (sum-narrow (lac + 2 ^ wordBits)) h
+linkComplemented-lt i {lac} h = choose-either Narrow (flag 7 i) (wrapped-lt (lac + 2 ^ wordBits)) h
 
 -- the sum with bit 11 itself
 bit-added : (b lac : ℕ) → b < 2 → Narrow lac → (lac + b) % 2 ^ lacBits ≡ choose b ((lac + 1) % 2 ^ lacBits) lac
@@ -39,8 +40,8 @@ bit-added (suc (suc b)) lac h n = absurd (omega arith)
 pub increased-is : (i : ℕ) {lac : ℕ} → Narrow lac → (lac + flag 11 i) % 2 ^ lacBits ≡ increased i lac
 increased-is i {lac} n = bit-added (flag 11 i) lac (omega arith) n
 
-pub increased-lt : (i : ℕ) {lac : ℕ} → Narrow lac → Narrow (increased i lac)
-increased-lt i {lac} h = choose-either Narrow (flag 11 i) (sum-narrow (lac + 1)) h
+increased-lt : (i : ℕ) {lac : ℕ} → Narrow lac → Narrow (increased i lac)
+increased-lt i {lac} h = choose-either Narrow (flag 11 i) (wrapped-lt (lac + 1)) h
 
 -- two instructions with the same bits 4 and 5 clear the same, and two with the same bits 6 and 7 complement the same: the code's arm is tied
 -- to the instruction that has no other bit
@@ -62,10 +63,10 @@ pub changed-lt : (i : ℕ) {lac : ℕ} → Narrow lac → Narrow (changed i lac)
 unfolding changed
 changed-lt i h = increased-lt i (linkComplemented-lt i (complemented-lt i (linkCleared-lt i (cleared-lt i h))))
 
-pub turnedLeft-lt : (i : ℕ) {lac : ℕ} → Narrow lac → Narrow (turnedLeft i lac)
+turnedLeft-lt : (i : ℕ) {lac : ℕ} → Narrow lac → Narrow (turnedLeft i lac)
 turnedLeft-lt i h = choose-either Narrow (flag 9 i) (rotatedLeft-lt lacBits (lit< tt) (places i) h) h
 
-pub turnedRight-lt : (i : ℕ) {lac : ℕ} → Narrow lac → Narrow (turnedRight i lac)
+turnedRight-lt : (i : ℕ) {lac : ℕ} → Narrow lac → Narrow (turnedRight i lac)
 turnedRight-lt i h = choose-either Narrow (flag 8 i) (rotatedRight-lt lacBits (lit< tt) (places i) h) h
 
 pub rotated-lt : (i : ℕ) {lac : ℕ} → Narrow lac → Narrow (rotated i lac)

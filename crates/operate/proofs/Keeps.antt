@@ -1,23 +1,22 @@
 -- Op 7 keeps words and registers within their widths.
 -- Assumes nothing.
-use Prim.Native.Nat.{ℕ, _^_, _<_}
+use Prim.Native.Nat.{ℕ, _<_}
 use lib.Dec.{lit<}
 use Rattle.word.specs.Choice.{on}
-use Rattle.word.specs.Word.{wordBits}
-use Rattle.word.proofs.Choice.{pick-either, choose-either}
-use Rattle.word.proofs.Next.{next-lt}
+use Rattle.word.proofs.Choice.{choose-either}
 use Rattle.machine.specs.State.{State, Good}
 use Rattle.machine.specs.Instruction.{flag}
 use Rattle.machine.proofs.Keeps.{lac-good, pc-good, run-good, either}
-use Rattle.operate.specs.Operate.{skips, group1, group2, group3, operate}
+use Rattle.operate.specs.Operate.{group1, group2, group3, operate}
 use Rattle.operate.proofs.Changes.{cleared-lt, changed-lt, rotated-lt, switched-lt}
+use Rattle.operate.proofs.Skipped.{skip-lt}
 
 pub operate-good : (i : ℕ) {s : State} → Good s → Good (operate i s)
 unfolding operate group1 group2 group3
 operate-good i {s} g =
     either (on (flag 3 i))
     (either (on (flag 11 i)) (lac-good (cleared-lt i (g .lac)) g)
-    (pc-good (pick-either (λ (x : ℕ). x < 2 ^ wordBits) (skips i (s .lac)) (next-lt (s .pc)) (g .pc))
+    (pc-good (skip-lt i (s .lac) (g .pc))
     (lac-good (switched-lt i (g .switches) (cleared-lt i (g .lac)))
     (run-good (choose-either (λ (x : ℕ). x < 2) (flag 10 i) (lit< tt) (g .run)) g))))
     (lac-good (rotated-lt i (changed-lt i (g .lac))) g)

@@ -5,12 +5,12 @@ use mathlib.Core.Bool.{Bool, true, false}
 use Prim.Native.Nat.{ℕ, _^_, _<_}
 use native.Mathlib.Omega.{arith}
 use lib.Dec.{lit<}
-use Rattle.word.specs.Choice.{on, pick, choose}
+use Rattle.word.specs.Choice.{on, pick}
 use Rattle.word.specs.Word.{wordBits, bits, rotatedLeft, rotatedRight}
 use Rattle.word.proofs.Rotation.{left-then-right}
 use Rattle.machine.specs.State.{lacBits}
 use Rattle.machine.specs.Instruction.{flag}
-use Rattle.operate.specs.Operate.{turnedLeft, turnedRight, rotated}
+use Rattle.operate.specs.Operate.{places, turnedLeft, turnedRight, rotated}
 
 -- left where the second test holds, then right where the first does, by n places
 abbrev turned : Bool → Bool → ℕ → ℕ → ℕ
@@ -34,4 +34,4 @@ back false n h = refl
 pub unrotated : (i : ℕ) {lac : ℕ} → lac < 2 ^ lacBits → flag 8 i ≡ flag 9 i → rotated i lac ≡ lac
 unfolding rotated
 unrotated i {lac} h same =
-    ap (λ (b : ℕ). turned (on b) (on (flag 9 i)) (choose (flag 10 i) 2 1) lac) same ∙ back (on (flag 9 i)) (choose (flag 10 i) 2 1) h
+    ap (λ (b : ℕ). turned (on b) (on (flag 9 i)) (places i) lac) same ∙ back (on (flag 9 i)) (places i) h

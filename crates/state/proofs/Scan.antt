@@ -60,7 +60,7 @@ all-from width (x ∷ xs) at h k q = go (fits (width at) x) refl (λ g. all-from
     go : (b : Bool) → fits (width at) x ≡ b
         → (suc at + length xs ≤ firstUnfit width (suc at) xs → (k : ℕ) → k < length xs → fits (width (suc at + k)) (getD xs k 0) ≡ true)
         → (k : ℕ) → k < length (x ∷ xs) → fits (width (at + k)) (getD (x ∷ xs) k 0) ≡ true
-    go false e rest k q = let s = step width at x xs false e in absurd (let z : _≡_ {A = ℕ} 0 1 = omega arith in omega arith)
+    go false e rest k q = let s = step width at x xs false e in absurd (omega arith)
     go true e rest zero q = rw (add-zero at) e
     go true e rest (suc k) q =
         let s = step width at x xs true e in
@@ -76,7 +76,9 @@ unfolding firstUnfit
 none-from width [] at h = omega arith
 none-from width (x ∷ xs) at h =
     let here : fits (width at) x ≡ true = subst (λ (n : ℕ). fits (width n) x ≡ true) (add-zero at) (h zero (omega arith)) in
-    let there = none-from width xs (suc at) (λ k q. subst (λ (n : ℕ). fits (width n) (getD xs k 0) ≡ true) (add-suc at k ∙ sym (suc-add at k)) (h (suc k) (omega arith))) in
+    let later : (k : ℕ) → k < length xs → fits (width (suc at + k)) (getD xs k 0) ≡ true =
+    λ k q. subst (λ (n : ℕ). fits (width n) (getD xs k 0) ≡ true) (add-suc at k ∙ sym (suc-add at k)) (h (suc k) (omega arith)) in
+    let there = none-from width xs (suc at) later in
     rw (step width at x xs true here) (omega arith)
 
 pub none-unfit : (width : ℕ → ℕ) (l : List ℕ) → ((k : ℕ) → k < length l → fits (width k) (getD l k 0) ≡ true) → length l ≤ firstUnfit width 0 l

@@ -70,7 +70,7 @@ fn first_unfit(widths: &[u64], beyond: u64, values: &[u16]) -> usize
     i
 }
 
-// 11 and 12.
+// Refusals 11 and 12: of memory's length and of its words.
 pub fn check_memory(memory: &[u16]) -> Verdict
     ensures { λ r. ⌜ r ≡ checkMemory (now (memory .entry)) ⌝ }
 {
@@ -85,7 +85,7 @@ pub fn check_memory(memory: &[u16]) -> Verdict
     }
 }
 
-// 13.
+// Refusal 13: of the registers by their widths. A place without a register holds 0.
 fn check_registers(widths: &[u64], values: &[u16]) -> Verdict
     requires { ⌜ ((k : ℕ) → getD (now widths) k 0 ≤ widest) ⌝ }
     ensures { λ r. ⌜ r ≡ checkRegisters (now (widths .entry)) (now (values .entry)) ⌝ }
@@ -98,7 +98,7 @@ fn check_registers(widths: &[u64], values: &[u16]) -> Verdict
     }
 }
 
-// 14.
+// Refusal 14: of the budget.
 fn check_budget(budget: u64) -> Verdict
     ensures { λ r. ⌜ r ≡ checkBudget budget ⌝ }
 {
@@ -119,7 +119,7 @@ fn or_else(first: Verdict, later: Verdict) -> Verdict
     }
 }
 
-// 11 to 14, in this order.
+// Refusals 11 to 14, in this order.
 pub fn check_state(memory: &[u16], widths: &[u64], values: &[u16], budget: u64) -> Verdict
     requires { ⌜ ((k : ℕ) → getD (now widths) k 0 ≤ widest) ⌝ }
     ensures { λ r. ⌜ r ≡ checkState (now (widths .entry)) (now (values .entry)) (now (memory .entry)) budget ⌝ }
@@ -128,7 +128,7 @@ pub fn check_state(memory: &[u16], widths: &[u64], values: &[u16], budget: u64) 
     or_else(check_memory(memory), later)
 }
 
-// 15.
+// Refusal 15: of the row list's places.
 pub fn check_row_list(places: usize) -> Verdict
     ensures { λ r. ⌜ r ≡ checkRowList places ⌝ }
 {

@@ -22,9 +22,10 @@ or-else-requires-2 c κs = search needs
 
 returns : tie.Need-returns
 returns c =
+    let later = c .before .before in
     c .or-else2 .ensures
     ∙ ap₂ orElse (c .before .check-memory .ensures)
-    (c .before .before .or-else .ensures ∙ ap₂ orElse (c .before .before .before .before .check-registers .ensures) (c .before .before .before .check-budget .ensures))
+    (later .or-else .ensures ∙ ap₂ orElse (later .before .before .check-registers .ensures) (later .before .check-budget .ensures))
 
 pub check-state-spec : {M : Type 1} → statement M
 check-state-spec =

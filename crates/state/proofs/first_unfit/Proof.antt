@@ -2,7 +2,7 @@
 use borrow.Author.Tests.{not-true, not-false}
 use borrow.Author.Needs.{needs}
 use mathlib.Core.Path.{_≡_, sym, _∙_}
-use Prim.Native.Nat.{_-_, _≤_}
+use Prim.Native.Nat.{ℕ, _-_, _≤_}
 use lib.ListN.{length, getD, drop}
 use Rattle.state.specs.Checks.{firstUnfit}
 use Rattle.state.proofs.Scan.{scan-end, scan-stop, scan-on}
@@ -10,7 +10,8 @@ use Rattle.state.proofs.first_unfit.Statement.{statement}
 use Rattle.state.proofs.first_unfit.Tie as tie
 
 abbrev Inv-loop : tie.InvT-loop
-Inv-loop widths beyond values i₀ i = (i ≤ length values) × (firstUnfit (λ k. getD widths k beyond) 0 values ≡ firstUnfit (λ k. getD widths k beyond) i (drop i values))
+Inv-loop widths beyond values i₀ i =
+    let width : ℕ → ℕ = λ k. getD widths k beyond in (i ≤ length values) × (firstUnfit width 0 values ≡ firstUnfit width i (drop i values))
 
 abbrev μ-loop : tie.MeasureT-loop
 μ-loop widths beyond values i₀ i = length values - i

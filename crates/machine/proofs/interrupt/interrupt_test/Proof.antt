@@ -22,17 +22,20 @@ same-length c = search needs
 returns : tie.Need-returns
 unfolding interruptTest
 returns c =
-    let begin = c .before .before .before .before .before .before .before in
+    let test = c .before .before .before .before in
+    let begin = test .before .before .before in
+    let bits = begin .pre .1 .1 in
     let s = at (begin .args .p) (now (begin .args .memory)) in
     ap (λ (m : List ℕ). withEnable 0 (withPc 1 (withMemory m s))) (c .before .before .store .ensures)
-    ∙ sym (case-true (on (s .enable) && on (s .request)) (interrupted s) s (served (begin .pre .1 .1 .0) (begin .pre .1 .1 .1) (c .before .before .before .before .if1 .taken)))
+    ∙ sym (case-true (on (s .enable) && on (s .request)) (interrupted s) s (served (bits .0) (bits .1) (test .if1 .taken)))
 
 returns-2 : tie.Need-returns-2
 unfolding interruptTest
 returns-2 c =
     let begin = c .before .before .before in
+    let bits = begin .pre .1 .1 in
     let s = at (begin .args .p) (now (begin .args .memory)) in
-    sym (case-false (on (s .enable) && on (s .request)) (interrupted s) s (unserved (begin .pre .1 .1 .0) (begin .pre .1 .1 .1) (c .if1 .left)))
+    sym (case-false (on (s .enable) && on (s .request)) (interrupted s) s (unserved (bits .0) (bits .1) (c .if1 .left)))
 
 pub interrupt-test-spec : {M : Type 1} → statement M
 interrupt-test-spec = tie.close (tie.spec store-requires same-length returns returns-2)

@@ -2,16 +2,11 @@
 use mathlib.Core.Path.{ap, _∙_}
 use denote.Ref.{now}
 use Rattle.machine.specs.Interrupt.{interruptTest}
-use Rattle.word.specs.Choice.{pick}
-use Rattle.word.specs.Word.{next}
-use Rattle.machine.specs.State.{at, withLac, withPc, withRun}
-use Rattle.operate.specs.Operate.{cleared, switched, skips, group2}
+use Rattle.machine.specs.State.{at}
+use Rattle.operate.specs.Operate.{switched}
 use native.Mathlib.Omega.{arith}
-use Prim.Native.Nat.{ℕ, _^_, _<_}
-use Rattle.word.proofs.Choice.{pick-either}
 use Rattle.operate.proofs.Changes.{cleared-lt}
-use Rattle.operate.proofs.Skipped.{skipped-only}
-use Rattle.word.proofs.Next.{next-lt}
+use Rattle.operate.proofs.Skipped.{skip-lt, skipped, skipped-only}
 use borrow.Author.Needs.{needs}
 use Rattle.operate.proofs.groups.second_group.Statement.{statement}
 use Rattle.operate.proofs.groups.second_group.Tie as tie
@@ -23,51 +18,53 @@ clear-requires : tie.Need-clear-requires
 clear-requires c κs = search needs
 
 interrupt-test-requires : tie.Need-interrupt-test-requires
-interrupt-test-requires c κs = let start = c .before .before .before .before .before in (
-  omega (arith, start .pre .memory .size),
-  (rw (c .before .before .before .skip .ensures) (pick-either (λ (n : ℕ). n < 2 ^ 12) (skips (start .args .i) (start .args .p .lac)) (next-lt (start .args .p .pc)) (start .pre .pc)), (start .pre .enable, start .pre .request)),
-)
+interrupt-test-requires c κs =
+    let start = c .before .before .before .before .before in
+    let pc = rw (c .before .before .before .skip .ensures) (skip-lt (start .args .i) (start .args .p .lac) (start .pre .pc)) in
+    (omega (arith, start .pre .memory .size), (pc, (start .pre .enable, start .pre .request)))
 
 same-length : tie.Need-same-length
 same-length c = search needs
 
 returns : tie.Need-returns
 returns c =
-    let begin = c .before .before .before .before .before .before .before .before .args in
-    let s = at (begin .p) (now (begin .memory)) in
+    let clear = c .before .before .before .before in
+    let test = clear .before in
+    let begin = test .before .before .before .args in
     c .before .before .interrupt-test .ensures
-    ∙ ap (λ (x : ℕ). interruptTest (withPc x (withLac (c .before .before .before .before .clear .result) s))) (c .before .before .before .before .before .before .skip .ensures)
-    ∙ ap (λ (x : ℕ). interruptTest (withPc (pick (skips (begin .i) (s .lac)) (next (s .pc)) (s .pc)) (withLac x s))) (c .before .before .before .before .clear .ensures)
-    ∙ ap interruptTest (skipped-only (begin .i) s (c .before .before .before .before .before .if1 .taken))
+    ∙ ap interruptTest (skipped-only (begin .i) (at (begin .p) (now (begin .memory))) _ _ (test .before .skip .ensures) (test .if1 .taken) (clear .clear .ensures))
 
 clear-requires-2 : tie.Need-clear-requires-2
 clear-requires-2 c κs = search needs
 
 or-switches-requires : tie.Need-or-switches-requires
-or-switches-requires c κs = let start = c .before .before .before .before in (rw (c .clear2 .ensures) (cleared-lt (start .args .i) (start .pre .lac)), start .pre .switches)
+or-switches-requires c κs =
+    let start = c .before .before .before .before in
+    (rw (c .clear2 .ensures) (cleared-lt (start .args .i) (start .pre .lac)), start .pre .switches)
 
 halt-requires : tie.Need-halt-requires
 halt-requires c κs = search needs
 
 interrupt-test-requires-2 : tie.Need-interrupt-test-requires-2
-interrupt-test-requires-2 c κs = let start = c .before .before .before .before .before .before .before in (
-  omega (arith, start .pre .memory .size),
-  (rw (c .before .before .before .before .before .skip .ensures) (pick-either (λ (n : ℕ). n < 2 ^ 12) (skips (start .args .i) (start .args .p .lac)) (next-lt (start .args .p .pc)) (start .pre .pc)), (start .pre .enable, start .pre .request)),
-)
+interrupt-test-requires-2 c κs =
+    let start = c .before .before .before .before .before .before .before in
+    let pc = rw (c .before .before .before .before .before .skip .ensures) (skip-lt (start .args .i) (start .args .p .lac) (start .pre .pc)) in
+    (omega (arith, start .pre .memory .size), (pc, (start .pre .enable, start .pre .request)))
 
 same-length-2 : tie.Need-same-length-2
 same-length-2 c = search needs
 
 returns-2 : tie.Need-returns-2
-unfolding group2
 returns-2 c =
-    let begin = c .before .before .before .before .before .before .before .before .before .before .args in
-    let s = at (begin .p) (now (begin .memory)) in
+    let halt = c .before .before .before .before in
+    let switch = halt .before in
+    let test = switch .before .before in
+    let begin = test .before .before .before .args in
     c .before .before .interrupt-test2 .ensures
-    ∙ ap (λ (x : ℕ). interruptTest (withPc x (withLac (c .before .before .before .before .before .or-switches .result) (withRun (c .before .before .before .before .halt .result) s)))) (c .before .before .before .before .before .before .before .before .skip .ensures)
-    ∙ ap (λ (x : ℕ). interruptTest (withPc (pick (skips (begin .i) (s .lac)) (next (s .pc)) (s .pc)) (withLac x (withRun (c .before .before .before .before .halt .result) s))))
-    (c .before .before .before .before .before .or-switches .ensures ∙ ap (switched (begin .i) (s .switches)) (c .before .before .before .before .before .before .clear2 .ensures))
-    ∙ ap (λ (x : ℕ). interruptTest (withPc (pick (skips (begin .i) (s .lac)) (next (s .pc)) (s .pc)) (withLac (switched (begin .i) (s .switches) (cleared (begin .i) (s .lac))) (withRun x s)))) (c .before .before .before .before .halt .ensures)
+    ∙ ap interruptTest
+    (skipped (begin .i) (at (begin .p) (now (begin .memory))) _ _ (test .before .skip .ensures) _
+    (switch .or-switches .ensures ∙ ap (switched (begin .i) (begin .p .switches)) (switch .before .clear2 .ensures))
+    (halt .halt .ensures))
 
 pub second-group-spec : {M : Type 1} → statement M
 second-group-spec =

@@ -12,7 +12,7 @@ use Rattle.machine.specs.Instruction.{op, ib}
 use Rattle.machine.specs.Interrupt.{interruptTest}
 use Rattle.reference.specs.Address.{firstAddress, afterIndexing, Addressed}
 use Rattle.reference.specs.Reference.{operation, reference}
-use Rattle.reference.proofs.Addresses.{firstAddress-lt, effective-lt, direct}
+use Rattle.reference.proofs.Addresses.{effective-lt, direct}
 use Rattle.reference.proofs.Keeps.{indexing-good}
 
 -- bits 0 to 3 are op and ib
@@ -22,7 +22,7 @@ even-op i n key = omega (arith, key)
 even-ib : (i n : ℕ) → bits wordBits 0 3 i ≡ n * 2 → ib i ≡ 0
 even-ib i n key = omega (arith, key)
 
-pub odd-op : (i n : ℕ) → bits wordBits 0 3 i ≡ n * 2 + 1 → op i ≡ n
+odd-op : (i n : ℕ) → bits wordBits 0 3 i ≡ n * 2 + 1 → op i ≡ n
 odd-op i n key = omega (arith, key)
 
 odd-ib : (i : ℕ) → ib i ≡ 1 → bits wordBits 0 3 i % 2 ≡ 1
@@ -54,25 +54,26 @@ ib-left i h p = go (bits wordBits 0 3 i % 2) refl
 pub none-left : (i : ℕ) → op i < 6 → ib i ≡ 1 → Passed 1 6 (bits wordBits 0 3 i) → ⊥
 none-left i h odd p = past i h (passed 1 6 (bits wordBits 0 3 i) p (odd-ib i odd))
 
-module _ (i last e : ℕ) (p : Processor) (before after : List ℕ) (found : Addressed i last before after e) where
+module _ {i last e : ℕ} {before after : List ℕ} (p : Processor) (found : Addressed i last before after e) where
   -- the operation may begin
   pub ready : Good (at p before) → Good (at p after) × (e < 2 ^ wordBits)
   ready g = (rw (found .memory) (indexing-good i last g), rw (found .address) (effective-lt i last (g .memory)))
 
   -- what op n leaves is what the instruction leaves
-  pub performed : (n : ℕ) (left : State) → op i ≡ n → left ≡ interruptTest (operation n e (at p after)) → left ≡ interruptTest (reference i last (at p before))
+  leaves : (n : ℕ) {left : State} → op i ≡ n → left ≡ interruptTest (operation n e (at p after)) → left ≡ interruptTest (reference i last (at p before))
   unfolding reference
-  performed n left same eq =
+  leaves n same eq =
       eq
       ∙ ap (λ (k : ℕ). interruptTest (operation k e (at p after))) (sym same)
       ∙ ap (λ (m : List ℕ). interruptTest (operation (op i) e (at p m))) (found .memory)
       ∙ ap (λ (a : ℕ). interruptTest (operation (op i) a (at p (afterIndexing i last before)))) (found .address)
 
--- the same of an instruction with ib = 0, whose address is the first one
-module _ (i last first n : ℕ) (p : Processor) (memory : List ℕ) (found : first ≡ firstAddress i last) (key : bits wordBits 0 3 i ≡ n * 2) where
-  pub first-ready : Good (at p memory) → Good (at p memory) × (first < 2 ^ wordBits)
-  first-ready g = (g, rw found (firstAddress-lt i last))
+  pub performed : (n : ℕ) {left : State} → bits wordBits 0 3 i ≡ n * 2 + 1 → left ≡ interruptTest (operation n e (at p after))
+      → left ≡ interruptTest (reference i last (at p before))
+  performed n key eq = leaves n (odd-op i n key) eq
 
-  pub first-performed : (left : State) → left ≡ interruptTest (operation n first (at p memory)) → left ≡ interruptTest (reference i last (at p memory))
-  first-performed left eq =
-      performed i last first p memory memory (direct i last first memory found (ap on (even-ib i n key))) n left (even-op i n key) eq
+-- the same of an instruction with ib = 0, whose address is the first one
+pub first-performed : (i last : ℕ) {first : ℕ} (p : Processor) (memory : List ℕ) → first ≡ firstAddress i last → (n : ℕ) {left : State}
+    → bits wordBits 0 3 i ≡ n * 2 → left ≡ interruptTest (operation n first (at p memory)) → left ≡ interruptTest (reference i last (at p memory))
+first-performed i last {first} p memory found n key eq =
+    leaves p (direct i last first memory found (ap on (even-ib i n key))) n (even-op i n key) eq

@@ -1,7 +1,7 @@
 -- `reference::refer`: where ib is 0 the op's function has the first address.
-use denote.Ref.{now}
 use Rattle.reference.specs.Reference.{operation}
-use Rattle.reference.proofs.Refers.{ib-left, first-ready, first-performed}
+use Rattle.reference.proofs.Addresses.{firstAddress-lt}
+use Rattle.reference.proofs.Refers.{ib-left, first-performed}
 use borrow.Author.Needs.{needs}
 use Rattle.reference.proofs.refer.Statement.{statement}
 use Rattle.reference.proofs.refer.Tie as tie
@@ -10,49 +10,37 @@ first-address-requires : tie.Need-first-address-requires
 first-address-requires c κs = search needs
 
 and-to-requires : tie.Need-and-to-requires
-and-to-requires c κs =
-    let begin = c .before .before .before .before in
-    first-ready (begin .args .i) (begin .args .last) _ 0 (begin .args .p) (now (begin .args .memory)) (c .first-address .ensures) (c .before .before .match .keys1) (begin .pre .0)
+and-to-requires c κs = (c .before .before .before .before .pre .0, rw (c .first-address .ensures) (firstAddress-lt _ _))
 
 first-address-requires-2 : tie.Need-first-address-requires-2
 first-address-requires-2 c κs = search needs
 
 add-to-requires : tie.Need-add-to-requires
-add-to-requires c κs =
-    let begin = c .before .before .before .before in
-    first-ready (begin .args .i) (begin .args .last) _ 1 (begin .args .p) (now (begin .args .memory)) (c .first-address2 .ensures) (c .before .before .match .keys2) (begin .pre .0)
+add-to-requires c κs = (c .before .before .before .before .pre .0, rw (c .first-address2 .ensures) (firstAddress-lt _ _))
 
 first-address-requires-3 : tie.Need-first-address-requires-3
 first-address-requires-3 c κs = search needs
 
 increment-and-skip-requires : tie.Need-increment-and-skip-requires
-increment-and-skip-requires c κs =
-    let begin = c .before .before .before .before in
-    first-ready (begin .args .i) (begin .args .last) _ 2 (begin .args .p) (now (begin .args .memory)) (c .first-address3 .ensures) (c .before .before .match .keys3) (begin .pre .0)
+increment-and-skip-requires c κs = (c .before .before .before .before .pre .0, rw (c .first-address3 .ensures) (firstAddress-lt _ _))
 
 first-address-requires-4 : tie.Need-first-address-requires-4
 first-address-requires-4 c κs = search needs
 
 deposit-at-requires : tie.Need-deposit-at-requires
-deposit-at-requires c κs =
-    let begin = c .before .before .before .before in
-    first-ready (begin .args .i) (begin .args .last) _ 3 (begin .args .p) (now (begin .args .memory)) (c .first-address4 .ensures) (c .before .before .match .keys4) (begin .pre .0)
+deposit-at-requires c κs = (c .before .before .before .before .pre .0, rw (c .first-address4 .ensures) (firstAddress-lt _ _))
 
 first-address-requires-5 : tie.Need-first-address-requires-5
 first-address-requires-5 c κs = search needs
 
 call-at-requires : tie.Need-call-at-requires
-call-at-requires c κs =
-    let begin = c .before .before .before .before in
-    first-ready (begin .args .i) (begin .args .last) _ 4 (begin .args .p) (now (begin .args .memory)) (c .first-address5 .ensures) (c .before .before .match .keys5) (begin .pre .0)
+call-at-requires c κs = (c .before .before .before .before .pre .0, rw (c .first-address5 .ensures) (firstAddress-lt _ _))
 
 first-address-requires-6 : tie.Need-first-address-requires-6
 first-address-requires-6 c κs = search needs
 
 jump-to-requires : tie.Need-jump-to-requires
-jump-to-requires c κs =
-    let begin = c .before .before .before .before in
-    first-ready (begin .args .i) (begin .args .last) _ 5 (begin .args .p) (now (begin .args .memory)) (c .first-address6 .ensures) (c .before .before .match .keys6) (begin .pre .0)
+jump-to-requires c κs = (c .before .before .before .before .pre .0, rw (c .first-address6 .ensures) (firstAddress-lt _ _))
 
 -- else ib is 1
 refer-indirectly-requires : tie.Need-refer-indirectly-requires
@@ -66,8 +54,8 @@ same-length c = search needs
 returns : tie.Need-returns
 unfolding operation
 returns c =
-    let begin = c .before .before .before .before .before .before .before .args in
-    first-performed (begin .i) (begin .last) _ 0 (begin .p) (now (begin .memory)) (c .before .before .before .first-address .ensures) (c .before .before .before .before .before .match .keys1) _ (c .before .before .and-to .ensures)
+    let test = c .before .before .before .before .before in
+    first-performed _ _ (test .before .before .args .p) _ (c .before .before .before .first-address .ensures) 0 (test .match .keys1) (c .before .before .and-to .ensures)
 
 same-length-2 : tie.Need-same-length-2
 same-length-2 c = search needs
@@ -75,8 +63,8 @@ same-length-2 c = search needs
 returns-2 : tie.Need-returns-2
 unfolding operation
 returns-2 c =
-    let begin = c .before .before .before .before .before .before .before .args in
-    first-performed (begin .i) (begin .last) _ 1 (begin .p) (now (begin .memory)) (c .before .before .before .first-address2 .ensures) (c .before .before .before .before .before .match .keys2) _ (c .before .before .add-to .ensures)
+    let test = c .before .before .before .before .before in
+    first-performed _ _ (test .before .before .args .p) _ (c .before .before .before .first-address2 .ensures) 1 (test .match .keys2) (c .before .before .add-to .ensures)
 
 same-length-3 : tie.Need-same-length-3
 same-length-3 c = search needs
@@ -84,8 +72,8 @@ same-length-3 c = search needs
 returns-3 : tie.Need-returns-3
 unfolding operation
 returns-3 c =
-    let begin = c .before .before .before .before .before .before .before .args in
-    first-performed (begin .i) (begin .last) _ 2 (begin .p) (now (begin .memory)) (c .before .before .before .first-address3 .ensures) (c .before .before .before .before .before .match .keys3) _ (c .before .before .increment-and-skip .ensures)
+    let test = c .before .before .before .before .before in
+    first-performed _ _ (test .before .before .args .p) _ (c .before .before .before .first-address3 .ensures) 2 (test .match .keys3) (c .before .before .increment-and-skip .ensures)
 
 same-length-4 : tie.Need-same-length-4
 same-length-4 c = search needs
@@ -93,8 +81,8 @@ same-length-4 c = search needs
 returns-4 : tie.Need-returns-4
 unfolding operation
 returns-4 c =
-    let begin = c .before .before .before .before .before .before .before .args in
-    first-performed (begin .i) (begin .last) _ 3 (begin .p) (now (begin .memory)) (c .before .before .before .first-address4 .ensures) (c .before .before .before .before .before .match .keys4) _ (c .before .before .deposit-at .ensures)
+    let test = c .before .before .before .before .before in
+    first-performed _ _ (test .before .before .args .p) _ (c .before .before .before .first-address4 .ensures) 3 (test .match .keys4) (c .before .before .deposit-at .ensures)
 
 same-length-5 : tie.Need-same-length-5
 same-length-5 c = search needs
@@ -102,8 +90,8 @@ same-length-5 c = search needs
 returns-5 : tie.Need-returns-5
 unfolding operation
 returns-5 c =
-    let begin = c .before .before .before .before .before .before .before .args in
-    first-performed (begin .i) (begin .last) _ 4 (begin .p) (now (begin .memory)) (c .before .before .before .first-address5 .ensures) (c .before .before .before .before .before .match .keys5) _ (c .before .before .call-at .ensures)
+    let test = c .before .before .before .before .before in
+    first-performed _ _ (test .before .before .args .p) _ (c .before .before .before .first-address5 .ensures) 4 (test .match .keys5) (c .before .before .call-at .ensures)
 
 same-length-6 : tie.Need-same-length-6
 same-length-6 c = search needs
@@ -111,8 +99,8 @@ same-length-6 c = search needs
 returns-6 : tie.Need-returns-6
 unfolding operation
 returns-6 c =
-    let begin = c .before .before .before .before .before .before .before .args in
-    first-performed (begin .i) (begin .last) _ 5 (begin .p) (now (begin .memory)) (c .before .before .before .first-address6 .ensures) (c .before .before .before .before .before .match .keys6) _ (c .before .before .jump-to .ensures)
+    let test = c .before .before .before .before .before in
+    first-performed _ _ (test .before .before .args .p) _ (c .before .before .before .first-address6 .ensures) 5 (test .match .keys6) (c .before .before .jump-to .ensures)
 
 same-length-7 : tie.Need-same-length-7
 same-length-7 c = search needs

@@ -20,8 +20,8 @@ clear-requires c κs = search needs
 interrupt-test-requires : tie.Need-interrupt-test-requires
 interrupt-test-requires c κs =
     let start = c .before .before .before .before .before in
-    let pc = rw (c .before .before .before .skip .ensures) (skip-lt (start .args .i) (start .args .p .lac) (start .pre .pc)) in
-    (omega (arith, start .pre .memory .size), (pc, (start .pre .enable, start .pre .request)))
+    let pc = skip-lt (start .args .i) (start .args .p .lac) (start .pre .pc) in
+    (omega (arith, start .pre .memory .size), (rw (c .before .before .before .skip .ensures) pc, (start .pre .enable, start .pre .request)))
 
 same-length : tie.Need-same-length
 same-length c = search needs
@@ -48,8 +48,8 @@ halt-requires c κs = search needs
 interrupt-test-requires-2 : tie.Need-interrupt-test-requires-2
 interrupt-test-requires-2 c κs =
     let start = c .before .before .before .before .before .before .before in
-    let pc = rw (c .before .before .before .before .before .skip .ensures) (skip-lt (start .args .i) (start .args .p .lac) (start .pre .pc)) in
-    (omega (arith, start .pre .memory .size), (pc, (start .pre .enable, start .pre .request)))
+    let pc = skip-lt (start .args .i) (start .args .p .lac) (start .pre .pc) in
+    (omega (arith, start .pre .memory .size), (rw (c .before .before .before .before .before .skip .ensures) pc, (start .pre .enable, start .pre .request)))
 
 same-length-2 : tie.Need-same-length-2
 same-length-2 c = search needs

@@ -21,8 +21,10 @@ same-length c = search needs
 returns : tie.Need-returns
 unfolding group3
 returns c =
-    let begin = c .before .before .before .before .before .before .args in
-    c .before .before .interrupt-test .ensures ∙ ap (λ (x : ℕ). interruptTest (withLac x (at (begin .p) (now (begin .memory))))) (c .before .before .before .before .clear .ensures)
+    let clear = c .before .before .before .before in
+    let begin = clear .before .before .args in
+    c .before .before .interrupt-test .ensures
+    ∙ ap (λ (x : ℕ). interruptTest (withLac x (at (begin .p) (now (begin .memory))))) (clear .clear .ensures)
 
 pub third-group-spec : {M : Type 1} → statement M
 third-group-spec = tie.close (tie.spec clear-requires interrupt-test-requires same-length returns)

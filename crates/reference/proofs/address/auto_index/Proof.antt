@@ -27,11 +27,13 @@ same-length c = search needs
 returns : tie.Need-returns
 unfolding indexed
 returns c =
-    let begin = c .before .before .before .before .before .before .before .before .before .args in
+    let load = c .before .before .before .before .before in
+    let test = load .before .before in
+    let begin = test .before .before .args in
     let m = now (begin .memory) in
     c .before .before .store .ensures
-    ∙ ap (λ (x : ℕ). set m (begin .a) x) (c .before .before .before .increment .ensures ∙ ap next (c .before .before .before .before .before .load .ensures))
-    ∙ sym (ap (λ (t : Bool). pick t (set m (begin .a) (next (getD m (begin .a) 0))) m) (eq-eqb _ _ (c .before .before .before .before .before .before .before .if1 .taken)))
+    ∙ ap (λ (x : ℕ). set m (begin .a) x) (c .before .before .before .increment .ensures ∙ ap next (load .load .ensures))
+    ∙ sym (ap (λ (t : Bool). pick t (set m (begin .a) (next (getD m (begin .a) 0))) m) (eq-eqb _ _ (test .if1 .taken)))
 
 returns-2 : tie.Need-returns-2
 unfolding indexed

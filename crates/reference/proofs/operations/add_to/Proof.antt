@@ -23,9 +23,10 @@ same-length c = search needs
 
 returns : tie.Need-returns
 returns c =
-    let begin = c .before .before .before .before .before .before .before .before .args in
+    let load = c .before .before .before .before .before in
+    let begin = load .before .before .before .args in
     let s = at (begin .p) (now (begin .memory)) in
-    c .before .before .interrupt-test .ensures ∙ ap (λ (w : ℕ). interruptTest (withLac ((s .lac + w) % 2 ^ lacBits) s)) (c .before .before .before .before .before .load .ensures)
+    c .before .before .interrupt-test .ensures ∙ ap (λ (w : ℕ). interruptTest (withLac ((s .lac + w) % 2 ^ lacBits) s)) (load .load .ensures)
 
 pub add-to-spec : {M : Type 1} → statement M
 add-to-spec = tie.close (tie.spec load-requires add-q interrupt-test-requires same-length returns)

@@ -31,10 +31,11 @@ same-length c = search needs
 
 returns : tie.Need-returns
 returns c =
-    let begin = c .before .before .before .before .before .before .before .before .before .args in
+    let load = c .before .before .before .before .before .before in
+    let begin = load .before .before .before .args in
     let s = at (begin .p) (now (begin .memory)) in
     c .before .before .interrupt-test .ensures
-    ∙ ap (λ (w : ℕ). interruptTest (withLac (withAc (s .lac) (bitAnd (s .lac % 2 ^ wordBits) w)) s)) (c .before .before .before .before .before .before .load .ensures)
+    ∙ ap (λ (w : ℕ). interruptTest (withLac (withAc (s .lac) (bitAnd (s .lac % 2 ^ wordBits) w)) s)) (load .load .ensures)
     ∙ ap (λ (a : ℕ). interruptTest (withLac (withAc (s .lac) (bitAnd a (word (begin .e) s))) s)) (sym (ac-is (s .lac)))
 
 pub and-to-spec : {M : Type 1} → statement M

@@ -23,11 +23,13 @@ same-length c = search needs
 
 returns : tie.Need-returns
 returns c =
-    let begin = c .before .before .before .before .before .before .before .before .before .before .args in
+    let increase = c .before .before .before .before in
+    let store = increase .before .before .before in
+    let begin = store .before .before .before .args in
     let s = at (begin .p) (now (begin .memory)) in
     c .before .before .interrupt-test .ensures
-    ∙ ap (λ (m : List ℕ). interruptTest (withPc (c .before .before .before .before .increment .result) (withMemory m s))) (c .before .before .before .before .before .before .before .store .ensures)
-    ∙ ap (λ (n : ℕ). interruptTest (withPc n (stored (begin .e) (s .pc) s))) (c .before .before .before .before .increment .ensures)
+    ∙ ap (λ (m : List ℕ). interruptTest (withPc (increase .increment .result) (withMemory m s))) (store .store .ensures)
+    ∙ ap (λ (n : ℕ). interruptTest (withPc n (stored (begin .e) (s .pc) s))) (increase .increment .ensures)
 
 pub call-at-spec : {M : Type 1} → statement M
 call-at-spec =

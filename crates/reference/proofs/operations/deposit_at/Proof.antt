@@ -24,10 +24,11 @@ same-length c = search needs
 
 returns : tie.Need-returns
 returns c =
-    let begin = c .before .before .before .before .before .before .before .before .before .before .before .args in
+    let store = c .before .before .before .before .before .before .before in
+    let begin = store .before .before .before .before .args in
     let s = at (begin .p) (now (begin .memory)) in
     c .before .before .interrupt-test .ensures
-    ∙ ap (λ (m : List ℕ). interruptTest (withLac (withoutAc (s .lac)) (withMemory m s))) (c .before .before .before .before .before .before .before .store .ensures)
+    ∙ ap (λ (m : List ℕ). interruptTest (withLac (withoutAc (s .lac)) (withMemory m s))) (store .store .ensures)
     ∙ ap (λ (a : ℕ). interruptTest (withLac (withoutAc (s .lac)) (stored (begin .e) a s))) (sym (ac-is (s .lac)))
 
 pub deposit-at-spec : {M : Type 1} → statement M

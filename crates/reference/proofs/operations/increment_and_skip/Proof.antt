@@ -28,11 +28,13 @@ same-length c = search needs
 
 returns : tie.Need-returns
 returns c =
-    let begin = c .before .before .before .before .before .before .before .before .before .before .before .before .before .args in
+    let store = c .before .before .before .before .before .before .before in
+    let increase = store .before .before in
+    let begin = increase .before .before .before .before .args in
     let s = at (begin .p) (now (begin .memory)) in
-    let increased = c .before .before .before .before .before .before .before .before .before .increment .ensures ∙ ap next (c .before .before .before .before .before .before .before .before .before .before .load .ensures) in
+    let increased = increase .increment .ensures ∙ ap next (increase .before .load .ensures) in
     c .before .before .interrupt-test .ensures
-    ∙ ap (λ (m : List ℕ). interruptTest (withMemory m s)) (c .before .before .before .before .before .before .before .store .ensures)
+    ∙ ap (λ (m : List ℕ). interruptTest (withMemory m s)) (store .store .ensures)
     ∙ ap interruptTest (isz-stays (begin .e) _ s increased (c .before .before .before .before .if1 .taken))
 
 increment-requires-2 : tie.Need-increment-requires-2
@@ -46,13 +48,16 @@ same-length-2 c = search needs
 
 returns-2 : tie.Need-returns-2
 returns-2 c =
-    let begin = c .before .before .before .before .before .before .before .before .before .before .before .before .before .before .args in
+    let count = c .before .before .before .before in
+    let store = count .before .before .before .before in
+    let increase = store .before .before in
+    let begin = increase .before .before .before .before .args in
     let s = at (begin .p) (now (begin .memory)) in
-    let increased = c .before .before .before .before .before .before .before .before .before .before .increment .ensures ∙ ap next (c .before .before .before .before .before .before .before .before .before .before .before .load .ensures) in
+    let increased = increase .increment .ensures ∙ ap next (increase .before .load .ensures) in
     c .before .before .interrupt-test2 .ensures
-    ∙ ap (λ (m : List ℕ). interruptTest (withPc (c .before .before .before .before .increment2 .result) (withMemory m s))) (c .before .before .before .before .before .before .before .before .store .ensures)
-    ∙ ap (λ (n : ℕ). interruptTest (withPc n (stored (begin .e) (c .before .before .before .before .before .before .before .before .before .before .increment .result) s))) (c .before .before .before .before .increment2 .ensures)
-    ∙ ap interruptTest (isz-skips (begin .e) _ s increased (c .before .before .before .before .before .if1 .left))
+    ∙ ap (λ (m : List ℕ). interruptTest (withPc (count .increment2 .result) (withMemory m s))) (store .store .ensures)
+    ∙ ap (λ (n : ℕ). interruptTest (withPc n (stored (begin .e) (increase .increment .result) s))) (count .increment2 .ensures)
+    ∙ ap interruptTest (isz-skips (begin .e) _ s increased (count .before .if1 .left))
 
 pub increment-and-skip-spec : {M : Type 1} → statement M
 increment-and-skip-spec =

@@ -10,7 +10,7 @@ use Rattle.operate.proofs.Keeps.{operate-good}
 use Rattle.reference.proofs.Keeps.{reference-good}
 use Rattle.pdp8.specs.Step.{execute, step}
 
-pub execute-good : (i last : ℕ) {s : State} → Good s → Good (execute i last s)
+execute-good : (i last : ℕ) {s : State} → Good s → Good (execute i last s)
 unfolding execute
 execute-good i last g =
     either (eqb (op i) 6) (inputOutput-good i g)

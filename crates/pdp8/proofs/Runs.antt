@@ -2,7 +2,7 @@
 -- mean; and that a run of a + b steps is a run of a, then of b.
 -- Assumes nothing.
 use mathlib.Core.Path.{_≡_, refl, sym, ap, _∙_, subst}
-use mathlib.Core.Bool.{Bool, true, false}
+use mathlib.Core.Bool.{Bool, true, false, false≢true}
 use Prim.Native.Nat.{ℕ, zero, suc, _+_, _-_, _*_, _≤_, _<_, suc-le-suc}
 use native.Mathlib.Nat.{zero-add, add-zero, suc-add, add-suc, le-of-suc-le-suc, zero-lt-suc}
 use native.Mathlib.Numerals.{add-one}
@@ -30,7 +30,7 @@ unfolding runFrom
 run-step left done s e = case-true (on (s .run)) (runFrom left (suc done) (step s)) (ended done s) e
 
 -- the same as a loop that counts up to the budget goes through it
-pub run-spent : (budget done : ℕ) (s : State) → budget ≤ done → runFrom (budget - done) done s ≡ ended done s
+run-spent : (budget done : ℕ) (s : State) → budget ≤ done → runFrom (budget - done) done s ≡ ended done s
 unfolding runFrom
 run-spent budget done s h =
     let none : budget - done ≡ 0 = omega arith in
@@ -181,10 +181,7 @@ spent-from (suc left) done s e =
       ap (λ (r : Run). r .steps) (run-step left done s t) ∙ later .0 ∙ suc-add done left ∙ sym (add-suc done left),
       up-to (λ (k : ℕ). on (after k s .run) ≡ true) left t (later .1),
     ))
-    (λ f.
-    let last = spent-on s (ap (λ (r : Run). r .reason) (sym (run-halted (suc left) done s f)) ∙ e) in
-    let z : _≡_ {A = ℕ} 0 1 = cc in
-    absurd (omega arith))
+    (λ f. absurd (false≢true (sym f ∙ spent-on s (ap (λ (r : Run). r .reason) (sym (run-halted (suc left) done s f)) ∙ e))))
 
 -- "else `spent` with exactly the budget done", RUN being 1 throughout
 pub spent-exactly : (budget : ℕ) (s : State) → run budget s .reason ≡ Spent

@@ -1,7 +1,7 @@
 -- The three ways through a step: the instruction i that was fetched, with PC increased to n, by its op, which its bits 0 to 3 tell.
 -- Assumes nothing.
-use mathlib.Core.Path.{_≡_, sym, ap, _∙_, subst}
-use Prim.Native.Nat.{ℕ, suc, _/_, _%_, _<_}
+use mathlib.Core.Path.{_≡_, sym, ap, _∙_}
+use Prim.Native.Nat.{ℕ, _/_, _%_, _<_}
 use native.Mathlib.Omega.{arith}
 use borrow.Author.Tests.{ne-eqb}
 use lib.Dec.{eqb}
@@ -18,29 +18,23 @@ use Rattle.reference.specs.Reference.{reference}
 use Rattle.pdp8.specs.Step.{execute, step}
 
 -- bits 0 to 3 are op and one bit more
-pub op-of : (i n : ℕ) → bits wordBits 0 3 i / 2 ≡ n → op i ≡ n
+pub op-of : (i n : ℕ) → bits wordBits 0 3 i ≡ n → op i ≡ n / 2
 op-of i n key = omega (arith, key)
 
 pub bit-3-of : (i n : ℕ) → bits wordBits 0 3 i ≡ n → flag 3 i ≡ n % 2
 bit-3-of i n key = omega (arith, key)
 
-pub below-16 : (i : ℕ) → bits wordBits 0 3 i < 16
-below-16 i = omega arith
+-- what none of the arms of ops 6 and 7 takes
+abbrev Passed : ℕ → Type 0
+Passed v = (((Unit × (v ≡ 12 → ⊥)) × (v ≡ 13 → ⊥)) × (v ≡ 14 → ⊥)) × (v ≡ 15 → ⊥)
 
-pub below-6 : (i : ℕ) → bits wordBits 0 3 i < 12 → op i < 6
-below-6 i key = omega (arith, key)
+pub op-left : (i : ℕ) → Passed (bits wordBits 0 3 i) → op i < 6
+op-left i none = omega (arith, none)
 
-less : (n v : ℕ) → v < suc n → (v ≡ n → ⊥) → v < n
-less n v h other = omega (arith, h, other)
-
--- what the four arms of ops 6 and 7 pass over
-pub passed-over : (v : ℕ) → v < 16 → (v ≡ 12 → ⊥) → (v ≡ 13 → ⊥) → (v ≡ 14 → ⊥) → (v ≡ 15 → ⊥) → v < 12
-passed-over v h a b c d = less 12 v (less 13 v (less 14 v (less 15 v h d) c) b) a
+pub counted-good : (s : State) (n : ℕ) → n ≡ next (s .pc) → Good s → Good (withPc n s)
+counted-good s n increased g = rw increased (pc-good (next-lt (s .pc)) g)
 
 module _ (s : State) (i n : ℕ) (fetched : i ≡ word (s .pc) s) (increased : n ≡ next (s .pc)) where
-  pub counted-good : Good s → Good (withPc n s)
-  counted-good g = subst (λ (x : ℕ). Good (withPc x s)) (sym increased) (pc-good (next-lt (s .pc)) g)
-
   execution : execute i (s .pc) (withPc n s) ≡ step s
   unfolding step
   execution =
@@ -50,16 +44,16 @@ module _ (s : State) (i n : ℕ) (fetched : i ≡ word (s .pc) s) (increased : n
   unfolding execute
   op-6 six = sym (case-true (eqb (op i) 6) _ _ (ap (λ (x : ℕ). eqb x 6) six)) ∙ execution
 
-  other : eqb (op i) 6 ≡ false
+  not-op-6 : eqb (op i) 6 ≡ false
       → interruptTest (elim (eqb (op i) 7) [ true ↦ operate i (withPc n s) | false ↦ reference i (s .pc) (withPc n s) ]) ≡ step s
   unfolding execute
-  other six = sym (case-false (eqb (op i) 6) _ _ six) ∙ execution
+  not-op-6 six = sym (case-false (eqb (op i) 6) _ _ six) ∙ execution
 
   pub op-7 : op i ≡ 7 → interruptTest (operate i (withPc n s)) ≡ step s
   op-7 seven =
-      ap interruptTest (sym (case-true (eqb (op i) 7) _ _ (ap (λ (x : ℕ). eqb x 7) seven))) ∙ other (ap (λ (x : ℕ). eqb x 6) seven)
+      ap interruptTest (sym (case-true (eqb (op i) 7) _ _ (ap (λ (x : ℕ). eqb x 7) seven))) ∙ not-op-6 (ap (λ (x : ℕ). eqb x 6) seven)
 
   pub ops-0-to-5 : op i < 6 → interruptTest (reference i (s .pc) (withPc n s)) ≡ step s
   ops-0-to-5 low =
       ap interruptTest (sym (case-false (eqb (op i) 7) _ _ (ne-eqb (op i) 7 (λ e. omega (arith, e, low)))))
-      ∙ other (ne-eqb (op i) 6 (λ e. omega (arith, e, low)))
+      ∙ not-op-6 (ne-eqb (op i) 6 (λ e. omega (arith, e, low)))

@@ -54,8 +54,9 @@ same-length c = search needs
 returns : tie.Need-returns
 unfolding operation
 returns c =
-    let test = c .before .before .before .before .before in
-    first-performed _ _ (test .before .before .args .p) _ (c .before .before .before .first-address .ensures) 0 (test .match .keys1) (c .before .before .and-to .ensures)
+    let call = c .before .before .before in
+    let test = call .before .before in
+    first-performed _ _ (test .before .before .args .p) _ (call .first-address .ensures) 0 (test .match .keys1) (c .before .before .and-to .ensures)
 
 same-length-2 : tie.Need-same-length-2
 same-length-2 c = search needs
@@ -63,8 +64,9 @@ same-length-2 c = search needs
 returns-2 : tie.Need-returns-2
 unfolding operation
 returns-2 c =
-    let test = c .before .before .before .before .before in
-    first-performed _ _ (test .before .before .args .p) _ (c .before .before .before .first-address2 .ensures) 1 (test .match .keys2) (c .before .before .add-to .ensures)
+    let call = c .before .before .before in
+    let test = call .before .before in
+    first-performed _ _ (test .before .before .args .p) _ (call .first-address2 .ensures) 1 (test .match .keys2) (c .before .before .add-to .ensures)
 
 same-length-3 : tie.Need-same-length-3
 same-length-3 c = search needs
@@ -72,8 +74,9 @@ same-length-3 c = search needs
 returns-3 : tie.Need-returns-3
 unfolding operation
 returns-3 c =
-    let test = c .before .before .before .before .before in
-    first-performed _ _ (test .before .before .args .p) _ (c .before .before .before .first-address3 .ensures) 2 (test .match .keys3) (c .before .before .increment-and-skip .ensures)
+    let call = c .before .before .before in
+    let test = call .before .before in
+    first-performed _ _ (test .before .before .args .p) _ (call .first-address3 .ensures) 2 (test .match .keys3) (c .before .before .increment-and-skip .ensures)
 
 same-length-4 : tie.Need-same-length-4
 same-length-4 c = search needs
@@ -81,8 +84,9 @@ same-length-4 c = search needs
 returns-4 : tie.Need-returns-4
 unfolding operation
 returns-4 c =
-    let test = c .before .before .before .before .before in
-    first-performed _ _ (test .before .before .args .p) _ (c .before .before .before .first-address4 .ensures) 3 (test .match .keys4) (c .before .before .deposit-at .ensures)
+    let call = c .before .before .before in
+    let test = call .before .before in
+    first-performed _ _ (test .before .before .args .p) _ (call .first-address4 .ensures) 3 (test .match .keys4) (c .before .before .deposit-at .ensures)
 
 same-length-5 : tie.Need-same-length-5
 same-length-5 c = search needs
@@ -90,8 +94,9 @@ same-length-5 c = search needs
 returns-5 : tie.Need-returns-5
 unfolding operation
 returns-5 c =
-    let test = c .before .before .before .before .before in
-    first-performed _ _ (test .before .before .args .p) _ (c .before .before .before .first-address5 .ensures) 4 (test .match .keys5) (c .before .before .call-at .ensures)
+    let call = c .before .before .before in
+    let test = call .before .before in
+    first-performed _ _ (test .before .before .args .p) _ (call .first-address5 .ensures) 4 (test .match .keys5) (c .before .before .call-at .ensures)
 
 same-length-6 : tie.Need-same-length-6
 same-length-6 c = search needs
@@ -99,8 +104,9 @@ same-length-6 c = search needs
 returns-6 : tie.Need-returns-6
 unfolding operation
 returns-6 c =
-    let test = c .before .before .before .before .before in
-    first-performed _ _ (test .before .before .args .p) _ (c .before .before .before .first-address6 .ensures) 5 (test .match .keys6) (c .before .before .jump-to .ensures)
+    let call = c .before .before .before in
+    let test = call .before .before in
+    first-performed _ _ (test .before .before .args .p) _ (call .first-address6 .ensures) 5 (test .match .keys6) (c .before .before .jump-to .ensures)
 
 same-length-7 : tie.Need-same-length-7
 same-length-7 c = search needs

@@ -32,8 +32,7 @@ step-requires c κs = c .before .before .loop .inv .1
 add-steps : tie.Need-add-steps Inv-loop μ-loop
 add-steps c =
     let was = c .before .before .before .before .before .loop in
-    let budget = c .before .before .before .before .before .before .before .before .args .budget in
-    let below = below-bound budget (was .steps) (was .end) (on (was .q .run)) (was .inv .3) (c .before .before .before .before .loop-test .taken) in
+    let below = below-bound _ _ _ (on (was .q .run)) (was .inv .3) (c .before .before .before .before .loop-test .taken) in
     omega (arith, below .0)
 
 bound-requires-2 : tie.Need-bound-requires-2 Inv-loop μ-loop
@@ -42,8 +41,7 @@ bound-requires-2 c κs = subst Good (sym (c .before .before .step .ensures)) (st
 loop-less : tie.Need-loop-less Inv-loop μ-loop
 loop-less c =
     let was = c .before .before .before .before .before .before .loop in
-    let budget = c .before .before .before .before .before .before .before .before .before .args .budget in
-    let below = below-bound budget (was .steps) (was .end) (on (was .q .run)) (was .inv .3) (c .before .before .before .before .before .loop-test .taken) in
+    let below = below-bound _ _ _ (on (was .q .run)) (was .inv .3) (c .before .before .before .before .before .loop-test .taken) in
     omega (arith, below .0)
 
 loop-again : tie.Need-loop-again Inv-loop μ-loop
@@ -51,7 +49,7 @@ loop-again c =
     let was = c .before .before .before .before .before .before .loop in
     let budget = c .before .before .before .before .before .before .before .before .before .args .budget in
     let eq = c .before .before .before .step .ensures in
-    let below = below-bound budget (was .steps) (was .end) (on (was .q .run)) (was .inv .3) (c .before .before .before .before .before .loop-test .taken) in (
+    let below = below-bound _ _ _ (on (was .q .run)) (was .inv .3) (c .before .before .before .before .before .loop-test .taken) in (
       omega (arith, below .0),
       subst Good (sym eq) (step-good (was .inv .1)),
       was .inv .2 ∙ run-on budget (was .steps) _ (below .0) (below .1) ∙ ap (λ (s : State). runFrom (budget - (was .steps + 1)) (was .steps + 1) s) (sym eq),

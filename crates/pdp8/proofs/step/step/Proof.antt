@@ -1,10 +1,9 @@
 -- `step::step` fetches, increases PC and goes by the op.
-use mathlib.Core.Path.{ap, _∙_}
+use mathlib.Core.Path.{_∙_}
 use denote.Ref.{now}
-use Prim.Native.Nat.{ℕ, _/_}
 use borrow.Author.Needs.{needs}
 use Rattle.machine.specs.State.{at}
-use Rattle.pdp8.proofs.Steps.{op-of, bit-3-of, below-16, below-6, passed-over, counted-good, op-6, op-7, ops-0-to-5}
+use Rattle.pdp8.proofs.Steps.{op-of, bit-3-of, op-left, counted-good, op-6, op-7, ops-0-to-5}
 use Rattle.pdp8.proofs.step.step.Statement.{statement}
 use Rattle.pdp8.proofs.step.step.Tie as tie
 
@@ -23,23 +22,22 @@ input-output-requires-2 c κs = search needs
 first-group-requires : tie.Need-first-group-requires
 first-group-requires c κs =
     let begin = c .before .before .before .before .before .before in (
-      counted-good (at (begin .args .p) (now (begin .args .memory))) _ _ (c .before .before .before .load .ensures) (c .before .before .increment .ensures) (begin .pre),
+      counted-good (at (begin .args .p) (now (begin .args .memory))) _ (c .before .before .increment .ensures) (begin .pre),
       bit-3-of _ 14 (c .before .match .keys3),
     )
 
 other-groups-requires : tie.Need-other-groups-requires
 other-groups-requires c κs =
     let begin = c .before .before .before .before .before .before in (
-      counted-good (at (begin .args .p) (now (begin .args .memory))) _ _ (c .before .before .before .load .ensures) (c .before .before .increment .ensures) (begin .pre),
+      counted-good (at (begin .args .p) (now (begin .args .memory))) _ (c .before .before .increment .ensures) (begin .pre),
       bit-3-of _ 15 (c .before .match .keys4),
     )
 
 refer-requires : tie.Need-refer-requires
 refer-requires c κs =
-    let begin = c .before .before .before .before .before .before in
-    let no = c .before .match .rest in (
-      counted-good (at (begin .args .p) (now (begin .args .memory))) _ _ (c .before .before .before .load .ensures) (c .before .before .increment .ensures) (begin .pre),
-      (rw (c .before .before .before .load .ensures) (begin .pre .memory .words (begin .args .p .pc)), (begin .pre .pc, below-6 _ (passed-over _ (below-16 _) (no .0 .0 .0 .1) (no .0 .0 .1) (no .0 .1) (no .1)))),
+    let begin = c .before .before .before .before .before .before in (
+      counted-good (at (begin .args .p) (now (begin .args .memory))) _ (c .before .before .increment .ensures) (begin .pre),
+      (rw (c .before .before .before .load .ensures) (begin .pre .memory .words (begin .args .p .pc)), (begin .pre .pc, op-left _ (c .before .match .rest))),
     )
 
 same-length : tie.Need-same-length
@@ -47,50 +45,55 @@ same-length c = search needs
 
 returns : tie.Need-returns
 returns c =
-    let begin = c .before .before .before .before .before .before .before .before .before .args in
+    let test = c .before .before .before .before in
+    let fetch = test .before .before in
+    let begin = fetch .before .before .before .args in
     c .before .before .input-output .ensures
-    ∙ op-6 (at (begin .p) (now (begin .memory))) _ _ (c .before .before .before .before .before .before .load .ensures) (c .before .before .before .before .before .increment .ensures)
-    (op-of _ 6 (ap (λ (x : ℕ). x / 2) (c .before .before .before .before .match .keys1)))
+    ∙ op-6 (at (begin .p) (now (begin .memory))) _ _ (fetch .load .ensures) (test .before .increment .ensures) (op-of _ 12 (test .match .keys1))
 
 same-length-2 : tie.Need-same-length-2
 same-length-2 c = search needs
 
 returns-2 : tie.Need-returns-2
 returns-2 c =
-    let begin = c .before .before .before .before .before .before .before .before .before .args in
+    let test = c .before .before .before .before in
+    let fetch = test .before .before in
+    let begin = fetch .before .before .before .args in
     c .before .before .input-output2 .ensures
-    ∙ op-6 (at (begin .p) (now (begin .memory))) _ _ (c .before .before .before .before .before .before .load .ensures) (c .before .before .before .before .before .increment .ensures)
-    (op-of _ 6 (ap (λ (x : ℕ). x / 2) (c .before .before .before .before .match .keys2)))
+    ∙ op-6 (at (begin .p) (now (begin .memory))) _ _ (fetch .load .ensures) (test .before .increment .ensures) (op-of _ 13 (test .match .keys2))
 
 same-length-3 : tie.Need-same-length-3
 same-length-3 c = search needs
 
 returns-3 : tie.Need-returns-3
 returns-3 c =
-    let begin = c .before .before .before .before .before .before .before .before .before .args in
+    let test = c .before .before .before .before in
+    let fetch = test .before .before in
+    let begin = fetch .before .before .before .args in
     c .before .before .first-group .ensures
-    ∙ op-7 (at (begin .p) (now (begin .memory))) _ _ (c .before .before .before .before .before .before .load .ensures) (c .before .before .before .before .before .increment .ensures)
-    (op-of _ 7 (ap (λ (x : ℕ). x / 2) (c .before .before .before .before .match .keys3)))
+    ∙ op-7 (at (begin .p) (now (begin .memory))) _ _ (fetch .load .ensures) (test .before .increment .ensures) (op-of _ 14 (test .match .keys3))
 
 same-length-4 : tie.Need-same-length-4
 same-length-4 c = search needs
 
 returns-4 : tie.Need-returns-4
 returns-4 c =
-    let begin = c .before .before .before .before .before .before .before .before .before .args in
+    let test = c .before .before .before .before in
+    let fetch = test .before .before in
+    let begin = fetch .before .before .before .args in
     c .before .before .other-groups .ensures
-    ∙ op-7 (at (begin .p) (now (begin .memory))) _ _ (c .before .before .before .before .before .before .load .ensures) (c .before .before .before .before .before .increment .ensures)
-    (op-of _ 7 (ap (λ (x : ℕ). x / 2) (c .before .before .before .before .match .keys4)))
+    ∙ op-7 (at (begin .p) (now (begin .memory))) _ _ (fetch .load .ensures) (test .before .increment .ensures) (op-of _ 15 (test .match .keys4))
 
 same-length-5 : tie.Need-same-length-5
 same-length-5 c = search needs
 
 returns-5 : tie.Need-returns-5
 returns-5 c =
-    let begin = c .before .before .before .before .before .before .before .before .before .args in
+    let test = c .before .before .before .before in
+    let fetch = test .before .before in
+    let begin = fetch .before .before .before .args in
     c .before .before .refer .ensures
-    ∙ ops-0-to-5 (at (begin .p) (now (begin .memory))) _ _ (c .before .before .before .before .before .before .load .ensures) (c .before .before .before .before .before .increment .ensures)
-    (let no = c .before .before .before .before .match .rest in below-6 _ (passed-over _ (below-16 _) (no .0 .0 .0 .1) (no .0 .0 .1) (no .0 .1) (no .1)))
+    ∙ ops-0-to-5 (at (begin .p) (now (begin .memory))) _ _ (fetch .load .ensures) (test .before .increment .ensures) (op-left _ (test .match .rest))
 
 pub step-spec : {M : Type 1} → statement M
 step-spec =

@@ -4,6 +4,7 @@ use machine::Processor;
 use state::Reason;
 use state::Refusal;
 use state::Verdict;
+use state::WORD_BITS;
 ghost use mathlib.Core.Path.{_≡_};
 ghost use Rattle.word.specs.Choice.{choose};
 ghost use Rattle.state.specs.Checks.{checkState};
@@ -12,19 +13,22 @@ ghost use Rattle.machine.specs.State.{start, values, widths, narrowed, Narrow, 
 ghost use Rattle.pdp8.specs.Run.{run};
 ghost use Rattle.emulator.specs.Emulate.{report, finished as finishedRun, emulate as emulation};
 
+// LAC is L and a word.
+const LAC_BITS: u64 = 13;
+
 // The emulator's answer: the registers, reason and steps of a run, or why there was none.
 pub enum Answer {
     Ran(Machine, Reason, u64),
     Refused(Refusal),
 }
 
-// 11 to 14, of the six registers by their widths.
+// Refusals 11 to 14, of the six registers by their widths.
 fn checked(memory: &[u16], m: Machine, budget: u64) -> Verdict
     ensures { λ r. ⌜ r ≡ checkState widths (values m) (now (memory .entry)) budget ⌝ }
 {
     state::check_state(
         memory,
-        &[13, 12, 1, 1, 1, 12],
+        &[LAC_BITS, WORD_BITS, 1, 1, 1, WORD_BITS],
         &[m.lac, m.pc, m.run, m.enable, m.request, m.switches],
         budget,
     )
@@ -44,7 +48,7 @@ fn opened(m: Machine) -> Processor
     }
 }
 
-// And back.
+// The registers that the emulator works with, as a caller gets them back.
 fn closed(p: Processor) -> Machine
     requires { ⌜ Narrow p ⌝ }
     ensures { λ r. ⌜ r ≡ narrowed p ⌝ }

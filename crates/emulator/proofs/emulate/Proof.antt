@@ -16,7 +16,9 @@ enum-told : tie.Need-enum-told
 enum-told c = search needs
 
 finished-requires : tie.Need-finished-requires
-finished-requires c κs = checked-good _ _ (c .before .before .before .before .before .before .args .budget) (sym (c .before .before .before .checked .ensures) ∙ c .before .enum-told .given .1)
+finished-requires c κs =
+    let call = c .before .before .before in
+    checked-good _ _ (call .before .before .before .args .budget) (sym (call .checked .ensures) ∙ c .before .enum-told .given .1)
 
 same-length : tie.Need-same-length
 same-length c = search needs
@@ -30,7 +32,9 @@ same-length-2 c = search needs
 
 returns-2 : tie.Need-returns-2
 unfolding emulate
-returns-2 c = rw (sym (c .before .before .before .before .before .before .checked .ensures) ∙ c .before .before .before .before .enum-told .given .1, emulate) (c .before .before .finished .ensures)
+returns-2 c =
+    let told = c .before .before .before .before in
+    rw (sym (told .before .before .checked .ensures) ∙ told .enum-told .given .1, emulate) (c .before .before .finished .ensures)
 
 pub emulate-spec : {M : Type 1} → statement M
 emulate-spec =

@@ -15,12 +15,16 @@ opened-requires : tie.Need-opened-requires
 opened-requires c κs = search needs
 
 run-requires : tie.Need-run-requires
-run-requires c κs = subst (λ (m : Machine). Good (start m (now (c .before .before .before .args .memory)))) (sym (c .opened .ensures)) (c .before .before .before .pre)
+run-requires c κs =
+    let begin = c .before .before .before in
+    subst (λ (m : Machine). Good (start m (now (begin .args .memory)))) (sym (c .opened .ensures)) (begin .pre)
 
 closed-requires : tie.Need-closed-requires
-closed-requires c κs = let begin = c .before .before .before .before .before .before .before in
-    let good = subst (λ (m : Machine). Good (start m (now (begin .args .memory)))) (sym (c .before .before .before .before .opened .ensures)) (begin .pre) in
-    good-narrow (subst Good (sym (ap (λ (r : Run). r .state) (c .before .before .before .run .ensures))) (run-good (begin .args .budget) good))
+closed-requires c κs =
+    let call = c .before .before .before in
+    let begin = call .before .before .before .before in
+    let good = subst (λ (m : Machine). Good (start m (now (begin .args .memory)))) (sym (call .before .opened .ensures)) (begin .pre) in
+    good-narrow (subst Good (sym (ap (λ (r : Run). r .state) (call .run .ensures))) (run-good (begin .args .budget) good))
 
 reason-requires : tie.Need-reason-requires
 reason-requires c κs = search needs
@@ -29,9 +33,11 @@ same-length : tie.Need-same-length
 same-length c = search needs
 
 returns : tie.Need-returns
-returns c = let begin = c .before .before .before .before .before .before .before .before .before in
+returns c =
+    let call = c .before .before .before .before .before in
+    let begin = call .before .before .before .before .args in
     rw (c .before .closed .ensures, c .reason .ensures)
-    (ap finished (c .before .before .before .before .before .run .ensures) ∙ ap (λ (m : Machine). finished (run (begin .args .budget) (start m (now (begin .args .memory))))) (c .before .before .before .before .before .before .opened .ensures))
+    (ap finished (call .run .ensures) ∙ ap (λ (m : Machine). finished (run (begin .budget) (start m (now (begin .memory))))) (call .before .opened .ensures))
 
 pub finished-spec : {M : Type 1} → statement M
 finished-spec =

@@ -95,7 +95,8 @@ pub record Holds (n : ℕ) (lines : List (List ℕ)) (memory : List ℕ) (s : Sc
   pub unfit : unfitLine (s .scanner) ≡ firstUnfit n lines
   pub loads : firstUnfit n lines ≡ 0 → s .memory ≡ loaded lines memory
 
-unfit-first : (n : ℕ) (line memory : List ℕ) (lines : List (List ℕ)) (s : Scan) → 0 < n → fit line ≡ false → unfitLine (s .scanner) ≡ n → Holds n (line ∷ lines) memory s
+unfit-first : (n : ℕ) (line memory : List ℕ) (lines : List (List ℕ)) (s : Scan) → 0 < n → fit line ≡ false → unfitLine (s .scanner) ≡ n
+    → Holds n (line ∷ lines) memory s
 unfolding firstUnfit
 unfit-first n line memory lines s h e u =
     let number : firstUnfit n (line ∷ lines) ≡ n = rw (e, firstUnfit) in

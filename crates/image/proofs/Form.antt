@@ -11,7 +11,7 @@ use lib.Dec.{eqb, leb}
 use borrow.Author.Tests.{ne-eqb, eqb-true, leb-true}
 use Rattle.word.specs.Choice.{pick}
 use Rattle.state.specs.Limits.{memoryWords}
-use Rattle.page.specs.Text.{lineFeed}
+use Rattle.page.specs.Text.{lineFeed, digit}
 use Rattle.image.specs.Input.{isOctal, form, formed, fit, octalValue, addressOf, wordOf}
 use Rattle.image.specs.Scan.{shifted}
 
@@ -21,11 +21,13 @@ both false b e = absurd (false≢true e)
 
 -- ---- where an LF may stand
 
+-- a test of the column that an LF passes is the last column's
 only-last : (s t : Bool) → pick s false (pick t true false) ≡ true → t ≡ true
 only-last true t e = absurd (false≢true e)
 only-last false true e = refl
 only-last false false e = absurd (false≢true e)
 
+-- no byte before the last column is an LF
 pub no-feed : (k b : ℕ) → k < 9 → form k b ≡ true → eqb b lineFeed ≡ false
 no-feed k b h e =
     ne-eqb b lineFeed (λ q.
@@ -34,7 +36,7 @@ no-feed k b h e =
 
 -- ---- parts of a line
 
-pub formed-append : (k : ℕ) (p q : List ℕ) → formed k (p ++ q) ≡ (formed k p && formed (k + length p) q)
+formed-append : (k : ℕ) (p q : List ℕ) → formed k (p ++ q) ≡ (formed k p && formed (k + length p) q)
 unfolding formed
 formed-append k [] q = rw (add-zero k)
 formed-append k (b ∷ p) q =
@@ -73,11 +75,11 @@ shifted-snoc x [] b = refl
 shifted-snoc x (d ∷ digits) b = shifted-snoc (shifted x d) digits b
 
 -- one octal digit
-shift : (x b bound : ℕ) → isOctal b ≡ true → x < bound → bound ≤ 512 → (shifted x b ≡ x * 8 + (b - 48)) × (x * 8 + (b - 48) < bound * 8)
+shift : (x b bound : ℕ) → isOctal b ≡ true → x < bound → bound ≤ 512 → (shifted x b ≡ x * 8 + (b - digit 0)) × (x * 8 + (b - digit 0) < bound * 8)
 shift x b bound e h k =
-    let parts = both (leb 48 b) (leb b 55) e in
-    let low = leb-true 48 b (parts .0) in
-    let high = leb-true b 55 (parts .1) in
+    let parts = both (leb (digit 0) b) (leb b (digit 7)) e in
+    let low = leb-true (digit 0) b (parts .0) in
+    let high = leb-true b (digit 7) (parts .1) in
     omega arith
 
 -- four octal digits
@@ -116,7 +118,8 @@ whole (a ∷ b ∷ c ∷ d ∷ t ∷ w ∷ x ∷ []) e l = absurd (omega arith)
 whole (a ∷ b ∷ c ∷ d ∷ t ∷ w ∷ x ∷ y ∷ []) e l = absurd (omega arith)
 whole (a ∷ b ∷ c ∷ d ∷ t ∷ w ∷ x ∷ y ∷ z ∷ v ∷ p) e l = absurd (omega arith)
 whole (a ∷ b ∷ c ∷ d ∷ t ∷ w ∷ x ∷ y ∷ z ∷ []) e l =
-    let parts = both (formed 0 (a ∷ b ∷ c ∷ d ∷ [])) (formed 4 (t ∷ w ∷ x ∷ y ∷ z ∷ [])) (sym (formed-append 0 (a ∷ b ∷ c ∷ d ∷ []) (t ∷ w ∷ x ∷ y ∷ z ∷ [])) ∙ e) in
+    let cut = formed-append 0 (a ∷ b ∷ c ∷ d ∷ []) (t ∷ w ∷ x ∷ y ∷ z ∷ []) in
+    let parts = both (formed 0 (a ∷ b ∷ c ∷ d ∷ [])) (formed 4 (t ∷ w ∷ x ∷ y ∷ z ∷ [])) (sym cut ∙ e) in
     let address = four a b c d (parts .0) in
     let word = four w x y z (both (form 4 t) (formed 5 (w ∷ x ∷ y ∷ z ∷ [])) (parts .1) .1) in
     record { address = rw (address .value) (mod-eq-of-lt (address .small)); word = word .value }

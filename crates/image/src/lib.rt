@@ -67,7 +67,7 @@ fn accepted(memory: &mut [u16; MEMORY_WORDS], s: Scanner, b: u8) -> Scanner
         next.word = with_digit(s.word, b);
         return next;
     }
-    let at = (s.address % 4096) as usize;
+    let at = s.address as usize % MEMORY_WORDS;
     memory[at] = s.word;
     at_line(std::num::wrapping_add_u64(s.line, 1))
 }

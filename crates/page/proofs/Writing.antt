@@ -30,7 +30,11 @@ pub written-then : (text more : List ℕ) {before mid after : List ℕ} {at end 
 written-then text more {before} {at = at} w v =
     record {
       page = v .page ∙ ap₂ (λ (l : List ℕ) (e : ℕ). sets l e more) (w .page) (w .place) ∙ sets-append before at text more;
-      place = v .place ∙ ap (λ (e : ℕ). e + length more) (w .place) ∙ add-assoc at (length text) (length more) ∙ ap (λ (n : ℕ). at + n) (sym (length-append text more));
+      place =
+          v .place
+          ∙ ap (λ (e : ℕ). e + length more) (w .place)
+          ∙ add-assoc at (length text) (length more)
+          ∙ ap (λ (n : ℕ). at + n) (sym (length-append text more));
     }
 
 -- one byte more
@@ -43,4 +47,8 @@ pub written-page : (size : ℕ) (text : List ℕ) {before after : List ℕ} {end
     → Page text before after end
 written-page size text {before} {end = end} l h w =
     let whole : end ≡ length text = w .place ∙ zero-add (length text) in
-    record { page = w .page ∙ sets-eq text before 0 (omega arith) ∙ ap (λ (n : ℕ). text ++ drop n before) (sym (w .place)); whole = whole; within = rw (w .page, length-sets before 0 text) (omega arith) }
+    record {
+      page = w .page ∙ sets-eq text before 0 (omega arith) ∙ ap (λ (n : ℕ). text ++ drop n before) (sym (w .place));
+      whole = whole;
+      within = rw (w .page, length-sets before 0 text) (omega arith);
+    }

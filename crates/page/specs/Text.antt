@@ -1,4 +1,4 @@
--- The characters of the listing and numbers written out. A text is the list of its bytes, which are ASCII.
+-- Texts as the programs write them: characters, and numbers written out. A text is the list of its bytes, which are ASCII.
 -- Assumes nothing.
 use mathlib.Core.List.{List, [], _∷_, _++_}
 use mathlib.Core.Bool.{true, false}
@@ -32,6 +32,6 @@ unfoldable pub decimalIn : ℕ → ℕ → List ℕ
 decimalIn zero x = []
 decimalIn (suc n) x = elim (ltb x 10) [ true ↦ digit x ∷ [] | false ↦ decimalIn n (x / 10) ++ (digit (x % 10) ∷ []) ]
 
--- "decimal": x has fewer digits than x + 1
+-- "decimal", all digits: x has at most x + 1 of them
 unfoldable pub decimal : ℕ → List ℕ
 decimal x = decimalIn (suc x) x

@@ -7,7 +7,7 @@ use mathlib.Core.List.{List, [], _∷_}
 use Prim.Native.Nat.{ℕ, zero, suc, _^_, _≤_, _<_}
 use native.Mathlib.Decide.{decLt}
 use native.Mathlib.Omega.{arith}
-use lib.ListN.{length, getD, set, length-set, List·getD-eq-default}
+use lib.ListN.{length, getD, set, replicate, length-set, List·getD-eq-default}
 use lib.Dec.{eqb, ltb}
 use lib.Pow.{pow-pos}
 use borrow.Author.Tests.{eqb-true, ltb-true, ltb-false, eq-eqb, lt-ltb, le-ltb}
@@ -75,6 +75,12 @@ set-either P (y ∷ ys) zero zero x h q = q
 set-either P (y ∷ ys) zero (suc k) x h q = h
 set-either P (y ∷ ys) (suc a) zero x h q = h
 set-either P (y ∷ ys) (suc a) (suc k) x h q = set-either (λ n. P (suc n)) ys a k x h q
+
+-- a list of zeros has 0 at every place, also past its end
+pub zeros : (n k : ℕ) → getD {A = ℕ} (replicate n 0) k 0 ≡ 0
+zeros zero k = refl
+zeros (suc n) zero = refl
+zeros (suc n) (suc k) = zeros n k
 
 -- a store of a word keeps memory acceptable, and one of a value that fits its register keeps registers fitting
 pub store-acceptable : {memory : List ℕ} (a : ℕ) {x : ℕ} → x < 2 ^ wordBits → Acceptable memory → Acceptable (set memory a x)

@@ -8,11 +8,10 @@ use lib.Dec.{lit≤, lit<}
 use lib.ListN.{getD}
 use Rattle.word.specs.Word.{widest}
 use Rattle.state.specs.Limits.{budgetLimit}
-use Rattle.state.specs.Refusals.{orElse}
-use Rattle.state.specs.Checks.{checkMemory, checkRegisters, checkBudget, checkState}
+use Rattle.state.specs.Checks.{checkState}
 use Rattle.state.specs.Acceptable.{Fitting}
 use Rattle.state.specs.declared.Verdict.the-variants.{Fit}
-use Rattle.state.proofs.Accepted.{memory-acceptable, acceptable-memory, registers-fitting, fitting-registers, within-budget, both-fit}
+use Rattle.state.proofs.Accepted.{state-sound, sound-state}
 use Rattle.machine.specs.declared.Machine.{Machine}
 use Rattle.machine.specs.State.{widths, values, start, Good}
 
@@ -28,18 +27,9 @@ widths-small (suc (suc (suc (suc (suc (suc k)))))) = lit≤ tt
 
 pub checked-good : (m : Machine) (memory : List ℕ) (budget : ℕ) → checkState widths (values m) memory budget ≡ Fit → Good (start m memory)
 checked-good m memory budget e =
-    let first = both-fit (checkMemory memory) (orElse (checkRegisters widths (values m)) (checkBudget budget)) e in
-    let second = both-fit (checkRegisters widths (values m)) (checkBudget budget) (first .1) in
-    let fit = registers-fitting widths (values m) (second .0) .narrow in
-    record {
-      lac = fit 0;
-      pc = fit 1;
-      run = fit 2;
-      enable = fit 3;
-      request = fit 4;
-      switches = fit 5;
-      memory = memory-acceptable memory (first .0);
-    }
+    let sound = state-sound widths (values m) memory budget e in
+    let fit = sound .1 .narrow in
+    record { lac = fit 0; pc = fit 1; run = fit 2; enable = fit 3; request = fit 4; switches = fit 5; memory = sound .0 }
 
 -- the values of a good state fit their places
 good-fitting : (m : Machine) (memory : List ℕ) → Good (start m memory) → Fitting widths (values m)
@@ -54,6 +44,6 @@ good-fitting m memory g = record { narrow = at }
     at (suc (suc (suc (suc (suc zero))))) = g .switches
     at (suc (suc (suc (suc (suc (suc k)))))) = lit< tt
 
-pub good-checked : (m : Machine) (memory : List ℕ) (budget : ℕ) → Good (start m memory) → budget ≤ budgetLimit → checkState widths (values m) memory budget ≡ Fit
-good-checked m memory budget g h =
-    rw (acceptable-memory memory (g .memory), fitting-registers widths (values m) (good-fitting m memory g), within-budget budget h)
+pub good-checked : (m : Machine) (memory : List ℕ) (budget : ℕ) → Good (start m memory) → budget ≤ budgetLimit
+    → checkState widths (values m) memory budget ≡ Fit
+good-checked m memory budget g h = sound-state widths (values m) memory budget (g .memory) (good-fitting m memory g) h

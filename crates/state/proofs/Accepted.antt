@@ -14,7 +14,7 @@ use borrow.Author.Tests.{eqb-true, ltb-true, ltb-false, eq-eqb, lt-ltb, le-ltb}
 use Rattle.word.specs.Choice.{pick}
 use Rattle.word.specs.Word.{wordBits}
 use Rattle.state.specs.Limits.{memoryWords, budgetLimit, rowPlaces}
-use Rattle.state.specs.Checks.{firstUnfit, firstLargeWord, firstWideRegister, checkMemory, checkRegisters, checkBudget, checkRowList}
+use Rattle.state.specs.Checks.{firstUnfit, firstLargeWord, firstWideRegister, checkMemory, checkRegisters, checkBudget, checkState, checkRowList}
 use Rattle.state.specs.Refusals.{orElse}
 use Rattle.state.specs.Acceptable.{Acceptable, Fitting}
 use Rattle.state.specs.declared.Refusal.{Refusal}
@@ -68,6 +68,24 @@ within-budget budget h = simp (le-ltb _ _ h)
 pub row-list-long : (places : ℕ) → checkRowList places ≡ Fit → rowPlaces ≤ places
 row-list-long places e = ltb-false _ _ (fit-false (ltb places rowPlaces) RowList Fit e .0)
 
+-- where two checks in order find nothing, neither does
+pub both-fit : (a b : Verdict) → orElse a b ≡ Fit → (a ≡ Fit) × (b ≡ Fit)
+both-fit Fit b e = (refl, e)
+both-fit (Unfit why) b e = (cc, cc)
+
+-- the checks of memory, registers and budget together
+pub state-sound : (widths values memory : List ℕ) (budget : ℕ) → checkState widths values memory budget ≡ Fit
+    → Acceptable memory × Fitting widths values × (budget ≤ budgetLimit)
+state-sound widths values memory budget e =
+    let first = both-fit (checkMemory memory) (orElse (checkRegisters widths values) (checkBudget budget)) e in
+    let second = both-fit (checkRegisters widths values) (checkBudget budget) (first .1) in
+    (memory-acceptable memory (first .0), registers-fitting widths values (second .0), budget-within budget (second .1))
+
+pub sound-state : (widths values memory : List ℕ) (budget : ℕ) → Acceptable memory → Fitting widths values → budget ≤ budgetLimit
+    → checkState widths values memory budget ≡ Fit
+sound-state widths values memory budget a f h =
+    rw (acceptable-memory memory a, fitting-registers widths values f, within-budget budget h)
+
 -- what holds of the value at a place, and of one that is put there, holds after it
 pub set-either : (P : ℕ → ℕ → Type 0) (l : List ℕ) (a k x : ℕ) → P k (getD l k 0) → P a x → P k (getD (set l a x) k 0)
 set-either P [] a k x h q = h
@@ -90,8 +108,3 @@ store-acceptable {memory} a {x} h m =
 pub store-fitting : {widths values : List ℕ} (a : ℕ) {x : ℕ} → x < 2 ^ getD widths a 0 → Fitting widths values → Fitting widths (set values a x)
 store-fitting {widths} {values} a {x} h f =
     record { narrow = λ k. set-either (λ place y. y < 2 ^ getD widths place 0) values a k x (f .narrow k) h }
-
--- where two checks in order find nothing, neither does
-pub both-fit : (a b : Verdict) → orElse a b ≡ Fit → (a ≡ Fit) × (b ≡ Fit)
-both-fit Fit b e = (refl, e)
-both-fit (Unfit why) b e = (cc, cc)

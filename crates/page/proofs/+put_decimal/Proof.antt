@@ -20,13 +20,16 @@ use Rattle.page.proofs.+put_decimal.Tie.{close}
 abbrev μ : Measures 1 put-decimal-kinds.ps ℕ
 μ κs a = a .1 .1 .0
 
--- what the function is given at the measure t
+-- what the function is given at the measure t, and at one below t
 abbrev at : ℕ → In 1 put-decimal-kinds.ps
 at t = and 1 put-decimal-kinds.ps (is 1 put-decimal-kinds.ps μ t) put-decimal.Pre
 
+abbrev below : ℕ → In 1 put-decimal-kinds.ps
+below t = and 1 put-decimal-kinds.ps (falls 1 put-decimal-kinds.ps _<_ μ t) put-decimal.Pre
+
 -- what is asked and learnt of the functions that it calls: of itself below t
 abbrev claims : ℕ → lts.Claims
-claims t = (digit-reads.Asked, digit-reads.Learnt, put-byte-reads.Asked, put-byte-reads.Learnt, and 1 put-decimal-kinds.ps (falls 1 put-decimal-kinds.ps _<_ μ t) put-decimal.Pre, put-decimal.Post)
+claims t = (digit-reads.Asked, digit-reads.Learnt, put-byte-reads.Asked, put-byte-reads.Learnt, below t, put-decimal.Post)
 
 digit-requires : (t : ℕ) → lts.Need-digit-requires (claims t) (at t) put-decimal.Post
 digit-requires t c κs = search needs

@@ -18,13 +18,16 @@ use Rattle.page.proofs.+put_octal.Tie.{close}
 abbrev μ : Measures 1 put-octal-kinds.ps ℕ
 μ κs a = a .1 .1 .0
 
--- what the function is given at the measure t
+-- what the function is given at the measure t, and at one below t
 abbrev at : ℕ → In 1 put-octal-kinds.ps
 at t = and 1 put-octal-kinds.ps (is 1 put-octal-kinds.ps μ t) put-octal.Pre
 
+abbrev below : ℕ → In 1 put-octal-kinds.ps
+below t = and 1 put-octal-kinds.ps (falls 1 put-octal-kinds.ps _<_ μ t) put-octal.Pre
+
 -- what is asked and learnt of the functions that it calls: of itself below t
 abbrev claims : ℕ → lts.Claims
-claims t = (and 1 put-octal-kinds.ps (falls 1 put-octal-kinds.ps _<_ μ t) put-octal.Pre, put-octal.Post, digit-reads.Asked, digit-reads.Learnt, put-byte-reads.Asked, put-byte-reads.Learnt)
+claims t = (below t, put-octal.Post, digit-reads.Asked, digit-reads.Learnt, put-byte-reads.Asked, put-byte-reads.Learnt)
 
 returns : (t : ℕ) → lts.Need-returns (claims t) (at t) put-octal.Post
 unfolding octal

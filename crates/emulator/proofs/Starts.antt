@@ -3,7 +3,8 @@
 -- Assumes nothing.
 use mathlib.Core.Path.{_≡_}
 use mathlib.Core.List.{List}
-use Prim.Native.Nat.{ℕ, zero, suc, _≤_, _<_, _^_}
+use Prim.Native.Nat.{ℕ, _≤_, _<_, _^_}
+use native.Mathlib.Nat.{le-trans}
 use lib.Dec.{lit≤, lit<}
 use lib.ListN.{getD}
 use Rattle.word.specs.Word.{widest}
@@ -14,16 +15,11 @@ use Rattle.state.specs.declared.Verdict.the-variants.{Fit}
 use Rattle.state.proofs.Accepted.{state-sound, sound-state}
 use Rattle.machine.specs.declared.Machine.{Machine}
 use Rattle.machine.specs.State.{widths, values, start, Good}
+use Rattle.machine.proofs.Registers.{by-register, width-le}
 
 -- no register is wider than 16 bits
 pub widths-small : (k : ℕ) → getD widths k 0 ≤ widest
-widths-small zero = lit≤ tt
-widths-small (suc zero) = lit≤ tt
-widths-small (suc (suc zero)) = lit≤ tt
-widths-small (suc (suc (suc zero))) = lit≤ tt
-widths-small (suc (suc (suc (suc zero)))) = lit≤ tt
-widths-small (suc (suc (suc (suc (suc zero))))) = lit≤ tt
-widths-small (suc (suc (suc (suc (suc (suc k)))))) = lit≤ tt
+widths-small k = le-trans (width-le k) (lit≤ tt)
 
 pub checked-good : (m : Machine) (memory : List ℕ) (budget : ℕ) → checkState widths (values m) memory budget ≡ Fit → Good (start m memory)
 checked-good m memory budget e =
@@ -33,16 +29,12 @@ checked-good m memory budget e =
 
 -- the values of a good state fit their places
 good-fitting : (m : Machine) (memory : List ℕ) → Good (start m memory) → Fitting widths (values m)
-good-fitting m memory g = record { narrow = at }
-  where
-    at : (k : ℕ) → getD (values m) k 0 < 2 ^ getD widths k 0
-    at zero = g .lac
-    at (suc zero) = g .pc
-    at (suc (suc zero)) = g .run
-    at (suc (suc (suc zero))) = g .enable
-    at (suc (suc (suc (suc zero)))) = g .request
-    at (suc (suc (suc (suc (suc zero))))) = g .switches
-    at (suc (suc (suc (suc (suc (suc k)))))) = lit< tt
+good-fitting m memory g =
+    record {
+      narrow =
+          by-register (λ (k : ℕ). getD (values m) k 0 < 2 ^ getD widths k 0) (g .lac) (g .pc) (g .run) (g .enable) (g .request) (g .switches)
+          (λ k. lit< tt);
+    }
 
 pub good-checked : (m : Machine) (memory : List ℕ) (budget : ℕ) → Good (start m memory) → budget ≤ budgetLimit
     → checkState widths (values m) memory budget ≡ Fit

@@ -83,9 +83,9 @@ shift x b bound e h k =
     omega arith
 
 -- four octal digits
-pub record Four (digits : List ℕ) : Type 0 where
-  pub value : shiftedAll 0 digits ≡ octalValue 0 digits
-  pub small : octalValue 0 digits < memoryWords
+record Four (digits : List ℕ) : Type 0 where
+  value : shiftedAll 0 digits ≡ octalValue 0 digits
+  small : octalValue 0 digits < memoryWords
 
 four : (a b c d : ℕ) → (isOctal a && (isOctal b && (isOctal c && (isOctal d && true)))) ≡ true → Four (a ∷ b ∷ c ∷ d ∷ [])
 unfolding octalValue

@@ -1,3 +1,4 @@
 pub mod Lac
 pub mod Keeps
+pub mod Registers
 pub mod Served

@@ -21,7 +21,7 @@ unfoldable pub imageL : State
 imageL = stored 0o200 0o7300 (stored 0o201 0o1204 (stored 0o202 0o7001 (stored 0o203 0o7402 (stored 0o204 0o7777 ready))))
 
 -- an instruction at 0200 and a LAC, and the LAC after it
-abbrev pub onLac : ℕ → ℕ → ℕ → Mark
+abbrev onLac : ℕ → ℕ → ℕ → Mark
 onLac i lac after =
     record { before = withLac lac (stored 0o200 i ready); after = withPc 0o201 (withLac after (stored 0o200 i ready)) }
 

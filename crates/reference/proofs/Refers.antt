@@ -1,4 +1,5 @@
--- An instruction of ops 0 to 5 whose address is worked out: its operation has the address and the memory that this left.
+-- An instruction of ops 0 to 5 whose address is worked out: its operation has the address and the memory that this left. The code's arms
+-- go by bits 0 to 3.
 -- Assumes nothing.
 use mathlib.Core.List.{List}
 use mathlib.Core.Path.{_≡_, refl, sym, ap, _∙_}

@@ -21,6 +21,7 @@ use Rattle.machine.proofs.Registers.{by-register, width-le}
 pub widths-small : (k : ℕ) → getD widths k 0 ≤ widest
 widths-small k = le-trans (width-le k) (lit≤ tt)
 
+-- what passes the checks is a good state
 pub checked-good : (m : Machine) (memory : List ℕ) (budget : ℕ) → checkState widths (values m) memory budget ≡ Fit → Good (start m memory)
 checked-good m memory budget e =
     let sound = state-sound widths (values m) memory budget e in
@@ -36,6 +37,7 @@ good-fitting m memory g =
           (λ k. lit< tt);
     }
 
+-- and a good state passes them
 pub good-checked : (m : Machine) (memory : List ℕ) (budget : ℕ) → Good (start m memory) → budget ≤ budgetLimit
     → checkState widths (values m) memory budget ≡ Fit
 good-checked m memory budget g h = sound-state widths (values m) memory budget (g .memory) (good-fitting m memory g) h

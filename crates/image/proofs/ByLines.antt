@@ -95,6 +95,7 @@ pub record Holds (n : ℕ) (lines : List (List ℕ)) (memory : List ℕ) (s : Sc
   pub unfit : unfitLine (s .scanner) ≡ firstUnfit n lines
   pub loads : firstUnfit n lines ≡ 0 → s .memory ≡ loaded lines memory
 
+-- the first line is unfit: its number is the answer
 unfit-first : (n : ℕ) (line memory : List ℕ) (lines : List (List ℕ)) (s : Scan) → 0 < n → fit line ≡ false → unfitLine (s .scanner) ≡ n
     → Holds n (line ∷ lines) memory s
 unfolding firstUnfit
@@ -102,6 +103,7 @@ unfit-first n line memory lines s h e u =
     let number : firstUnfit n (line ∷ lines) ≡ n = rw (e, firstUnfit) in
     record { unfit = u ∙ sym number; loads = λ z. absurd (not-suc-le-zero (subst (λ (k : ℕ). 0 < k) (sym number ∙ z) h)) }
 
+-- the first line is fit: it is loaded, and the answer is that of the others
 fit-first : (n : ℕ) (line memory : List ℕ) (lines : List (List ℕ)) (s : Scan) → fit line ≡ true
     → Holds (suc n) lines (set memory (addressOf line) (wordOf line)) s → Holds n (line ∷ lines) memory s
 unfolding firstUnfit loaded
@@ -129,6 +131,7 @@ module _ (b : ℕ) (text : List ℕ) (n : ℕ) (p memory : List ℕ) (e : formed
   abbrev Step : Type 0
   Step = Holds n (linesOf (p ++ b ∷ text)) memory (pass scanByte (scanByte (inLine n p memory) b) text)
 
+  -- a byte that may not stand at its column
   refused : form (length p) b ≡ false → Step
   unfolding scanByte
   refused f =
@@ -141,12 +144,14 @@ module _ (b : ℕ) (text : List ℕ) (n : ℕ) (p memory : List ℕ) (e : formed
       rw (stop, stays _ text (on-some n k), cut)
       (unfit-first n (p ++ b ∷ line .rest) memory (line .later) stopped k (fit-broken p b (line .rest) e f) number)
 
+  -- a byte before the last column
   inside : Agrees text → form (length p) b ≡ true → length p < 9 → Step
   inside later f l =
       let size : length (p ++ b ∷ []) ≡ length p + 1 = length-append p (b ∷ []) in
       rw (takes n p memory b f, within n p memory b l, ← append-snoc p b text)
       (later n (p ++ b ∷ []) memory (formed-snoc p b e f) (omega arith) k (omega arith))
 
+  -- the LF at the last column
   ended : Agrees text → b ≡ lineFeed → length p ≡ 9 → Step
   unfolding formed
   ended later f l =

@@ -36,6 +36,7 @@ no-feed k b h e =
 
 -- ---- parts of a line
 
+-- two parts, the second from the column that the first ends at
 formed-append : (k : ℕ) (p q : List ℕ) → formed k (p ++ q) ≡ (formed k p && formed (k + length p) q)
 unfolding formed
 formed-append k [] q = rw (add-zero k)

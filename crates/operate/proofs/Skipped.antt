@@ -12,15 +12,18 @@ use Rattle.machine.specs.State.{State, withLac, withPc, withRun}
 use Rattle.machine.specs.Instruction.{flag}
 use Rattle.operate.specs.Operate.{cleared, skips, switched, group2}
 
+-- PC after the skip is a word
 pub skip-lt : (i lac : ℕ) {pc : ℕ} → pc < 2 ^ wordBits → pick (skips i lac) (next pc) pc < 2 ^ wordBits
 skip-lt i lac {pc} h = pick-either (λ (n : ℕ). n < 2 ^ wordBits) (skips i lac) (next-lt pc) h
 
 module _ (i : ℕ) (s : State) (pc lac : ℕ) (skipping : pc ≡ pick (skips i (s .lac)) (next (s .pc)) (s .pc)) where
+  -- with the switches and the halt
   pub skipped : (run : ℕ) → lac ≡ switched i (s .switches) (cleared i (s .lac)) → run ≡ choose (flag 10 i) 0 (s .run)
       → withPc pc (withLac lac (withRun run s)) ≡ group2 i s
   unfolding group2
   skipped run switching halting = rw (skipping, switching, halting)
 
+  -- without them, where neither bit asks for one
   pub skipped-only : bits wordBits 9 10 i ≡ 0 → lac ≡ cleared i (s .lac) → withPc pc (withLac lac s) ≡ group2 i s
   unfolding group2
   skipped-only none clearing =

@@ -22,6 +22,7 @@ sets-more page text at i h =
     ∙ sets-append page at (take i text) (getD text i 0 ∷ [])
     ∙ ap (sets page at) (sym (take-suc text i 0 h) ∙ ap (λ (n : ℕ). take n text) (sym (add-one i)))
 
+-- nothing, and one text after another
 pub written-none : (page : List ℕ) (at : ℕ) → Written [] page at page at
 written-none page at = record { page = refl; place = sym (add-zero at) }
 

@@ -134,6 +134,7 @@ from-following : (left done : ℕ) (s : State) → runFrom left done s ≡ follo
 unfolding run
 from-following left done s = ap (λ (n : ℕ). runFrom left n s) (sym (add-zero done)) ∙ counted left done 0 s
 
+-- a run in two parts, from any number of steps done
 split-from : (a b done : ℕ) (s : State) → runFrom (a + b) done s ≡ runFrom b (runFrom a done s .steps) (runFrom a done s .state)
 unfolding runFrom
 split-from zero b done s = ap (λ (n : ℕ). runFrom n done s) (zero-add b)
@@ -167,6 +168,7 @@ up-to : (P : ℕ → Type 0) (left : ℕ) → P 0 → ((k : ℕ) → k ≤ left 
 up-to P left first later zero h = first
 up-to P left first later (suc k) h = later k (le-of-suc-le-suc h)
 
+-- a run that is spent has done all that was left, RUN being 1 before each step and at the end
 spent-from : (left done : ℕ) (s : State) → runFrom left done s .reason ≡ Spent
     → (runFrom left done s .steps ≡ done + left) × ((k : ℕ) → k ≤ left → on (after k s .run) ≡ true)
 unfolding runFrom after

@@ -1,15 +1,14 @@
--- A field of digits: its length, and how large a number it stands for; and how wide a register is at most.
+-- A field of digits: its length, and how large a number it stands for.
 -- Assumes nothing.
 use mathlib.Core.Path.{_≡_}
 use mathlib.Core.Bool.{true}
 use mathlib.Core.List.{List}
-use Prim.Native.Nat.{ℕ, zero, suc, _*_, _^_, _≤_, _<_}
+use Prim.Native.Nat.{ℕ, _*_, _^_, _<_}
 use native.Mathlib.Nat.{zero-add}
 use native.Mathlib.Omega.{arith}
-use lib.Dec.{eqb, lit≤}
-use lib.ListN.{length, getD}
+use lib.Dec.{eqb}
+use lib.ListN.{length}
 use borrow.Author.Tests.{eqb-true}
-use Rattle.machine.specs.State.{lacBits, widths}
 use Rattle.characters.specs.Characters.{runEnd}
 use Rattle.constants.specs.Constants.{numberAt}
 use Rattle.characters.specs.declared.Class.{Class}
@@ -29,13 +28,3 @@ module _ (k : Class) (n : ℕ) (field : List ℕ) (t : isDigits k n field ≡ tr
 pub octal-lt : (n : ℕ) (field : List ℕ) → isDigits Octal n field ≡ true → numberAt 8 field 0 n 0 < 2 ^ (3 * n)
 octal-lt n field t =
     rw (zero-add (3 * n)) at (value-lt Octal 3 octal-small field n 0 0 0 (omega (arith, digits-run Octal n field t)) (omega arith))
-
--- no register is wider than LAC
-pub width-le : (k : ℕ) → getD widths k 0 ≤ lacBits
-width-le zero = lit≤ tt
-width-le (suc zero) = lit≤ tt
-width-le (suc (suc zero)) = lit≤ tt
-width-le (suc (suc (suc zero))) = lit≤ tt
-width-le (suc (suc (suc (suc zero)))) = lit≤ tt
-width-le (suc (suc (suc (suc (suc zero))))) = lit≤ tt
-width-le (suc (suc (suc (suc (suc (suc k)))))) = lit≤ tt

@@ -9,6 +9,7 @@ use lib.Dec.{eqb, leb, ltb}
 use lib.ListN.{length, getD, length-drop}
 use borrow.Author.Tests.{ltb-true, leb-true, eqb-true}
 use Rattle.machine.specs.State.{widths}
+use Rattle.machine.proofs.Registers.{width-le}
 use Rattle.page.specs.Text.{ascii}
 use Rattle.characters.specs.Characters.{same}
 use Rattle.fields.specs.Fields.{tab, until, after, field, hasFields}
@@ -20,7 +21,7 @@ use Rattle.characters.proofs.Tests.{and-left, and-right, by-test}
 use Rattle.entry.specs.Lines.{machineRegisters, digitsOf, entry, isUnfit, lineBytes}
 use Rattle.entry.specs.declared.Entry.{Entry}
 use Rattle.entry.specs.declared.Entry.the-variants.{Word, Register, Budget, Unfit}
-use Rattle.entry.proofs.Digits.{digits-size, width-le}
+use Rattle.entry.proofs.Digits.{digits-size}
 use Rattle.entry.proofs.ByKind.{by-entry}
 
 -- an entry that is unfit unless n is at most m

@@ -2,27 +2,25 @@
 -- Assumes nothing.
 use mathlib.Core.Path.{_≡_, refl, sym, ap, _∙_, subst}
 use mathlib.Core.List.{List, [], _++_}
-use Prim.Native.Nat.{ℕ, zero, suc, _+_, _≤_}
+use Prim.Native.Nat.{ℕ, _+_, _≤_}
 use native.Mathlib.Omega.{arith}
 use lib.Dec.{lit<}
 use lib.ListN.{length, take, drop, length-append}
 use lib.Seq.{take-append-seam}
-use Rattle.word.specs.Choice.{on, choose}
+use Rattle.word.specs.Choice.{choose}
 use Rattle.state.specs.Limits.{rowPlaces}
-use Rattle.state.specs.Refusals.{orElse}
-use Rattle.state.specs.Checks.{checkMemory, checkRegisters, checkBudget, checkState}
+use Rattle.state.specs.Checks.{checkState}
 use Rattle.state.specs.declared.Reason.{Reason}
 use Rattle.state.specs.declared.Reason.the-variants.{Halted, Spent}
 use Rattle.state.specs.declared.Refusal.{Refusal}
 use Rattle.state.specs.declared.Verdict.{Verdict}
 use Rattle.state.specs.declared.Verdict.the-variants.{Fit, Unfit}
-use Rattle.state.proofs.Accepted.{budget-within, both-fit}
+use Rattle.state.proofs.Accepted.{state-sound}
 use Rattle.state.proofs.Numbers.{numbered}
 use Rattle.machine.specs.declared.Machine.{Machine}
-use Rattle.machine.specs.State.{State, widths, values, start, registers}
-use Rattle.pdp8.specs.Step.{step}
-use Rattle.pdp8.specs.Run.{reasonOf, runFrom, run}
-use Rattle.pdp8.proofs.Runs.{run-step, run-halted}
+use Rattle.machine.specs.State.{widths, values, start, registers}
+use Rattle.pdp8.specs.Run.{runFrom, run}
+use Rattle.pdp8.proofs.Runs.{reason-from}
 use Rattle.emulator.specs.Emulate as emulator
 use Rattle.emulator.specs.Emulate.{emulate}
 use Rattle.emulator.proofs.Starts.{checked-good}
@@ -34,7 +32,6 @@ use Rattle.evaluator.specs.declared.Outcome.{Outcome}
 use Rattle.evaluator.specs.declared.Outcome.the-variants.{Ran, Unread, Refused}
 use Rattle.last_lines.specs.LastLines.{endLine}
 use Rattle.entry.specs.Lines.{machineRegisters}
-use Rattle.characters.proofs.Tests.{by-test}
 use Rattle.pdp8_rows.specs.Text.{shippedText}
 use Rattle.shipped.specs.Claim.{Claim, cyclesOf}
 use Rattle.shipped.proofs.Starts.{every-start}
@@ -42,15 +39,6 @@ use Rattle.shipped.proofs.Agree.{runs-agree}
 use Rattle.run_lines.specs.Registers.{registerLines}
 use Rattle.run_lines.specs.Rows.{rowLines}
 use Rattle.explanation.specs.Explanation.{placesOf, told, explained, checkedBy, answered, listedIn}
-
--- a run's reason goes by RUN at its end
-reason-from : (left done : ℕ) (s : State) → runFrom left done s .reason ≡ reasonOf (runFrom left done s .state)
-unfolding runFrom
-reason-from zero done s = refl
-reason-from (suc left) done s =
-    by-test (on (s .run))
-    (λ e. rw (run-step left done s e) (reason-from left (suc done) (step s)))
-    (λ e. rw (run-halted (suc left) done s e))
 
 -- the bytes that tell of a run: the registers after it, its steps, the rows of its last cycle
 abbrev text : Machine → ℕ → List ℕ → List ℕ
@@ -65,9 +53,7 @@ module _ (m : Machine) (memory : List ℕ) (budget : ℕ) (list : List ℕ) (roo
   -- a state that the check finds fit is a start of the claim, with 0 in the working registers
   claim-of : checkState widths (values m) memory budget ≡ Fit → Claim m (placesOf m) memory budget list
   claim-of e =
-      let first = both-fit (checkMemory memory) (orElse (checkRegisters widths (values m)) (checkBudget budget)) e in
-      let second = both-fit (checkRegisters widths (values m)) (checkBudget budget) (first .1) in
-      let within = budget-within budget (second .1) in
+      let within = state-sound widths (values m) memory budget e .1 .1 in
       runs-agree m (placesOf m) memory budget list
       (every-start m memory 0 0 0 0 budget list (checked-good m memory budget e) (lit< tt) (lit< tt) (lit< tt) (lit< tt) within room)
 

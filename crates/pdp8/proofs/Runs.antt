@@ -72,6 +72,15 @@ run-bound budget done end s e h =
     (λ t. run-spent budget done s (let all : end ≡ budget = e ∙ ap (λ (b : Bool). pick b budget 0) t in omega (arith, all, h)))
     (λ f. run-halted (budget - done) done s f)
 
+-- a run's reason goes by RUN at its end
+pub reason-from : (left done : ℕ) (s : State) → runFrom left done s .reason ≡ reasonOf (runFrom left done s .state)
+unfolding runFrom
+reason-from zero done s = refl
+reason-from (suc left) done s =
+    by-test (on (s .run))
+    (λ e. rw (run-step left done s e) (reason-from left (suc done) (step s)))
+    (λ e. rw (run-halted (suc left) done s e))
+
 -- ---- whole runs
 
 -- RUN is 0 at entry: `halted`, 0 steps, at every budget

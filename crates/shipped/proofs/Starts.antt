@@ -4,7 +4,7 @@ use mathlib.Core.Path.{_≡_, refl, sym, ap, ap₂, _∙_, subst}
 use mathlib.Core.List.{List, _∷_, _++_}
 use Prim.Native.Nat.{ℕ, zero, suc, _+_, _^_, _≤_, _<_}
 use native.Mathlib.Omega.{arith}
-use lib.Dec.{lit≤, lit<}
+use lib.Dec.{lit≤}
 use lib.ListN.{length, getD, drop, replicate, take-append-drop}
 use lib.Seq.{drop-cons}
 use borrow.Author.Tests.{le-ltb}
@@ -13,7 +13,7 @@ use Rattle.state.specs.Acceptable.{Fitting}
 use Rattle.state.specs.Checks.{checkState}
 use Rattle.state.specs.Limits.{budgetLimit, rowPlaces}
 use Rattle.state.specs.declared.Verdict.the-variants.{Fit as Passed}
-use Rattle.state.proofs.Accepted.{acceptable-memory, fitting-registers, within-budget}
+use Rattle.state.proofs.Accepted.{sound-state, zeros}
 use Rattle.machine.specs.declared.Machine.{Machine}
 use Rattle.machine.specs.State.{widths, values, start, Good}
 use Rattle.emulator.proofs.Starts.{good-checked}
@@ -80,18 +80,11 @@ module _ {m : Machine} {registers memory : List ℕ} {budget : ℕ} {list : List
 
   pub evaluator-passes : check shipped registers memory budget list ≡ Passed
   evaluator-passes =
-      rw (
-        acceptable-memory memory (s .acceptable),
-        fitting-registers (widthsOf shipped) registers (s .fitting),
-        within-budget budget (s .within),
-        le-ltb (length list) rowPlaces (s .roomy),
-      )
+      rw (sound-state (widthsOf shipped) registers memory budget (s .acceptable) (s .fitting) (s .within), le-ltb (length list) rowPlaces (s .roomy))
 
 -- an unused part of zeros fits
 zeros-fit : (n k : ℕ) → getD (replicate n 0) k 0 < 1
-zeros-fit zero k = lit< tt
-zeros-fit (suc n) zero = lit< tt
-zeros-fit (suc n) (suc k) = zeros-fit n k
+zeros-fit n k = omega (arith, zeros n k)
 
 -- every good state of the machine and all fitting working registers make a start
 pub every-start : (m : Machine) (memory : List ℕ) (i last eadd skip budget : ℕ) (list : List ℕ) → Good (start m memory)

@@ -5,11 +5,11 @@ use mathlib.Core.Path.{_≡_, refl, sym, ap, _∙_, subst}
 use mathlib.Core.List.{List}
 use Prim.Native.Nat.{ℕ}
 use lib.ListN.{length}
-use Rattle.state.specs.Refusals.{numberOf, placeOf, orElse}
-use Rattle.state.specs.Checks.{checkMemory, checkRegisters, checkBudget, checkState, checkRowList}
+use Rattle.state.specs.Refusals.{numberOf, placeOf}
+use Rattle.state.specs.Checks.{checkState, checkRowList}
 use Rattle.state.specs.declared.Verdict.{Verdict}
 use Rattle.state.specs.declared.Verdict.the-variants.{Fit, Unfit}
-use Rattle.state.proofs.Accepted.{memory-acceptable, registers-fitting, budget-within, row-list-long, both-fit}
+use Rattle.state.proofs.Accepted.{row-list-long, both-fit, state-sound}
 use Rattle.state.proofs.Numbers.{numbered}
 use Rattle.machine.specs.declared.Machine.{Machine}
 use Rattle.machine.specs.State.{values}
@@ -39,14 +39,13 @@ module _ (m : Machine) (registers memory : List ℕ) (budget : ℕ) (list : List
       → Start m registers memory budget list
   start-of places machine e =
       let outer = both-fit (checkState (widthsOf shipped) registers memory budget) (checkRowList (length list)) e in
-      let first = both-fit (checkMemory memory) (orElse (checkRegisters (widthsOf shipped) registers) (checkBudget budget)) (outer .0) in
-      let second = both-fit (checkRegisters (widthsOf shipped) registers) (checkBudget budget) (first .1) in
+      let sound = state-sound (widthsOf shipped) registers memory budget (outer .0) in
       record {
         places = places;
         machine = machine;
-        fitting = registers-fitting (widthsOf shipped) registers (second .0);
-        acceptable = memory-acceptable memory (first .0);
-        within = budget-within budget (second .1);
+        fitting = sound .1 .0;
+        acceptable = sound .0;
+        within = sound .1 .1;
         roomy = row-list-long (length list) (outer .1);
       }
 

@@ -19,7 +19,8 @@ joined-to-requires c κs = search needs
 returns-2 : tie.Need-returns-2
 unfolding operated
 returns-2 c =
-    rw (ne-eqb (c .before .before .before .args .kind) 4 (c .before .before .if1 .left), eq-eqb (c .before .before .before .args .kind) 5 (c .before .if2 .taken)) (c .joined-to .ensures)
+    let kind = c .before .before .before .args .kind in
+    rw (ne-eqb kind 4 (c .before .before .if1 .left), eq-eqb kind 5 (c .before .if2 .taken)) (c .joined-to .ensures)
 
 rotated-by-requires : tie.Need-rotated-by-requires
 rotated-by-requires c κs = search needs
@@ -30,12 +31,16 @@ combine-requires c κs = search needs
 returns-3 : tie.Need-returns-3
 unfolding operated
 returns-3 c =
-    rw (ne-eqb (c .before .before .before .before .args .kind) 4 (c .before .before .before .if1 .left), ne-eqb (c .before .before .before .before .args .kind) 5 (c .before .before .if2 .left), lt-ltb (c .before .before .before .before .args .kind) 8 (c .before .if3 .taken)) (c .rotated-by .ensures)
+    let kind = c .before .before .before .before .args .kind in
+    rw (ne-eqb kind 4 (c .before .before .before .if1 .left), ne-eqb kind 5 (c .before .before .if2 .left), lt-ltb kind 8 (c .before .if3 .taken))
+    (c .rotated-by .ensures)
 
 returns-4 : tie.Need-returns-4
 unfolding operated
 returns-4 c =
-    rw (ne-eqb (c .before .before .before .before .args .kind) 4 (c .before .before .before .if1 .left), ne-eqb (c .before .before .before .before .args .kind) 5 (c .before .before .if2 .left), le-ltb (c .before .before .before .before .args .kind) 8 (c .before .if3 .left)) (c .combine .ensures)
+    let kind = c .before .before .before .before .args .kind in
+    rw (ne-eqb kind 4 (c .before .before .before .if1 .left), ne-eqb kind 5 (c .before .before .if2 .left), le-ltb kind 8 (c .before .if3 .left))
+    (c .combine .ensures)
 
 pub operate-spec : {M : Type 1} → statement M
 operate-spec =

@@ -21,23 +21,19 @@ places-requires c κs = search needs
 
 sub-exchanged : tie.Need-sub-exchanged
 sub-exchanged c =
-    let h = rest-le (c .before .before .before .args .b) (c .before .before .before .args .w) (c .before .before .if1 .left) in
-    omega (arith, h, c .before .places .ensures)
+    rest-le _ _ (c .before .before .if1 .left) (c .before .places .ensures)
 
 exchanged-requires : tie.Need-exchanged-requires
 exchanged-requires c κs =
-    let h = rest-le (c .before .before .before .args .b) (c .before .before .before .args .w) (c .before .before .if1 .left) in
-    omega (arith, h, c .before .places .ensures, c .before .before .before .pre)
+    omega (arith, sub-exchanged c, c .before .before .before .pre)
 
 sub-exchanged-2 : tie.Need-sub-exchanged-2
 sub-exchanged-2 c =
-    let h = rest-le (c .before .before .before .args .b) (c .before .before .before .args .w) (c .before .before .if1 .left) in
-    omega (arith, h, c .before .places .ensures)
+    rest-le _ _ (c .before .before .if1 .left) (c .before .places .ensures)
 
 exchanged-requires-2 : tie.Need-exchanged-requires-2
 exchanged-requires-2 c κs =
-    let h = rest-le (c .before .before .before .args .b) (c .before .before .before .args .w) (c .before .before .if1 .left) in
-    omega (arith, h, c .before .places .ensures, c .before .before .before .pre)
+    omega (arith, sub-exchanged-2 c, c .before .before .before .pre)
 
 returns-2 : tie.Need-returns-2
 unfolding rotatedBy

@@ -1,8 +1,9 @@
 -- `value::load`: kind by kind.
 use Prim.Native.Nat.{_/_}
+use native.Mathlib.Nat.{mod-le, div-le-self}
 use borrow.Author.Tests.{eq-eqb, ne-eqb}
 use Rattle.value.specs.Words.{loaded}
-use Rattle.shifts.proofs.Remainders.{part-le, quotient-le, narrow-is}
+use Rattle.shifts.proofs.Remainders.{narrow-is}
 use borrow.Author.Needs.{needs}
 use Rattle.value.proofs.load.Statement.{statement}
 use Rattle.value.proofs.load.Tie as tie
@@ -18,7 +19,8 @@ register-value-requires c κs = search needs
 returns-2 : tie.Need-returns-2
 unfolding loaded
 returns-2 c =
-    rw (ne-eqb (c .before .before .before .args .kind) 2 (c .before .before .if1 .left), eq-eqb (c .before .before .before .args .kind) 0 (c .if2 .taken)) (narrow-is (search needs) (c .before .register-value .ensures))
+    let kind = c .before .before .before .args .kind in
+    rw (ne-eqb kind 2 (c .before .before .if1 .left), eq-eqb kind 0 (c .if2 .taken)) (narrow-is (search needs) (c .before .register-value .ensures))
 
 cast-result : tie.Need-cast-result
 cast-result c = search needs
@@ -37,14 +39,17 @@ rem-result c = search needs
 
 cast-result-2 : tie.Need-cast-result-2
 cast-result-2 c =
-    let h = quotient-le (c .before .before .before .register-value .result) (c .before .power-of .result) in
-    let k = part-le (c .before .before .before .register-value .result / c .before .power-of .result) (c .power-of2 .result) in
+    let x = c .before .before .before .register-value .result in
+    let h = div-le-self x (c .before .power-of .result) in
+    let k = mod-le (x / c .before .power-of .result) (c .power-of2 .result) in
     search needs
 
 returns-3 : tie.Need-returns-3
 unfolding loaded
 returns-3 c =
-    rw (ne-eqb (c .before .before .before .before .before .args .kind) 2 (c .before .before .before .before .if1 .left), ne-eqb (c .before .before .before .before .before .args .kind) 0 (c .before .before .if2 .left), narrow-is (search needs) (c .before .before .before .register-value .ensures), c .before .power-of .ensures .is, c .power-of2 .ensures .is)
+    let b = c .before .before .before .before in
+    let kind = b .before .args .kind in
+    rw (ne-eqb kind 2 (b .if1 .left), ne-eqb kind 0 (c .before .before .if2 .left), narrow-is (search needs) (c .before .before .before .register-value .ensures), c .before .power-of .ensures .is, c .power-of2 .ensures .is)
 
 pub load-spec : {M : Type 1} → statement M
 load-spec =

@@ -9,7 +9,7 @@ use lib.Dec.{eqb, ltb}
 use lib.ListN.{getD, set}
 use Rattle.word.specs.Choice.{pick}
 use Rattle.value.specs.Value.{State}
-use Rattle.value.specs.Words.{wordValue, pops, Stack, advance, executed}
+use Rattle.value.specs.Words.{wordValue, pops, Stack, stackPlaces, advance, executed}
 
 pub few-pops : (r k : ℕ) → r ≡ pops k → r ≤ 2
 unfolding pops
@@ -24,19 +24,19 @@ few-pops r k e = rw e (few (ltb k 3) (eqb k 5) (ltb k 8))
 -- one word more, as the code finds it
 module _ (s : State) (code : List ℕ) (at : ℕ) (stack : List ℕ) (depth p v : ℕ) where
   abbrev base : ℕ
-  base = (depth + 32 - p) % 32
+  base = (depth + stackPlaces - p) % stackPlaces
 
   abbrev after : Stack
   after = record { places = set stack base v; depth = base + 1 }
 
   advanced : p ≡ pops (getD code at 0)
-      → v ≡ wordValue s (getD code at 0) (getD code (at + 1) 0) (getD code (at + 2) 0) (getD code (at + 3) 0) (getD stack base 0) (getD stack ((base + 1) % 32) 0)
+      → v ≡ wordValue s (getD code at 0) (getD code (at + 1) 0) (getD code (at + 2) 0) (getD code (at + 3) 0) (getD stack base 0) (getD stack ((base + 1) % stackPlaces) 0)
       → advance s (getD code at 0) (getD code (at + 1) 0) (getD code (at + 2) 0) (getD code (at + 3) 0) (record { places = stack; depth = depth }) ≡ after
   unfolding advance
   advanced e f = rw (f, e)
 
   pub one-word : (left : ℕ) → 0 < left → p ≡ pops (getD code at 0)
-      → v ≡ wordValue s (getD code at 0) (getD code (at + 1) 0) (getD code (at + 2) 0) (getD code (at + 3) 0) (getD stack base 0) (getD stack ((base + 1) % 32) 0)
+      → v ≡ wordValue s (getD code at 0) (getD code (at + 1) 0) (getD code (at + 2) 0) (getD code (at + 3) 0) (getD stack base 0) (getD stack ((base + 1) % stackPlaces) 0)
       → executed s code at left (record { places = stack; depth = depth }) ≡ executed s code (at + 4) (left - 1) after
   unfolding executed
   one-word zero h e f = absurd (omega arith)

@@ -7,7 +7,10 @@ ghost use mathlib.Core.Path.{_≡_};
 ghost use Prim.Native.Nat.{_+_, _*_, _≤_};
 ghost use lib.ListN.{length, getD};
 ghost use Rattle.state.specs.Limits.{memoryWords};
-ghost use Rattle.value.specs.Words.{loaded, wordValue, pops as Words·pops, result, between};
+ghost use Rattle.value.specs.Words.{loaded, wordValue, pops as Words·pops, result, codePlaces, between};
+
+// The places of the stack: one for each piece that an expression may have.
+const STACK_PLACES: usize = 32;
 
 // A register, a bit part of one, or a constant.
 fn load(kind: u16, a: u16, b: u16, c: u16, r: &[u16; 16]) -> u16
@@ -45,7 +48,7 @@ fn word_value(
     x: u16,
     y: u16,
 ) -> u16
-    requires { ⌜ at + 4 ≤ 4896 ⌝ ∗ ⌜ length (now memory) ≡ memoryWords ⌝ }
+    requires { ⌜ at + 4 ≤ codePlaces ⌝ ∗ ⌜ length (now memory) ≡ memoryWords ⌝ }
     ensures { λ v. ⌜ v ≡ wordValue (record { registers = now (r .entry); memory = now (memory .entry) })
         (getD (now (code .entry)) at 0) (getD (now (code .entry)) (at + 1) 0) (getD (now (code .entry)) (at + 2) 0) (getD (now (code .entry)) (at + 3) 0) x y ⌝ }
 {
@@ -62,16 +65,23 @@ fn word_value(
 
 // What n words from a place on come to.
 fn value_of(code: &[u16; CODE_PLACES], from: usize, n: usize, r: &[u16; 16], memory: &[u16]) -> u16
-    requires { ⌜ from + 4 * n ≤ 4896 ⌝ ∗ ⌜ length (now memory) ≡ memoryWords ⌝ }
+    requires { ⌜ from + 4 * n ≤ codePlaces ⌝ ∗ ⌜ length (now memory) ≡ memoryWords ⌝ }
     ensures { λ v. ⌜ v ≡ result (record { registers = now (r .entry); memory = now (memory .entry) }) (now (code .entry)) from n ⌝ }
 {
-    let mut stack = [0u16; 32];
+    let mut stack = [0u16; STACK_PLACES];
     let mut depth = 0;
     let mut at = from;
     let mut left = n;
     while 0 < left {
-        let base = (depth + 32 - pops(code[at])) % 32;
-        stack[base] = word_value(code, at, r, memory, stack[base], stack[(base + 1) % 32]);
+        let base = (depth + STACK_PLACES - pops(code[at])) % STACK_PLACES;
+        stack[base] = word_value(
+            code,
+            at,
+            r,
+            memory,
+            stack[base],
+            stack[(base + 1) % STACK_PLACES],
+        );
         depth = base + 1;
         at += 4;
         left -= 1;
@@ -90,7 +100,7 @@ pub fn value_between(
     requires { ⌜ length (now memory) ≡ memoryWords ⌝ }
     ensures { λ v. ⌜ v ≡ between (record { registers = now (r .entry); memory = now (memory .entry) }) (now (code .entry)) from to ⌝ }
 {
-    if (from <= to) & (to <= 4896) {
+    if (from <= to) & (to <= CODE_PLACES as u16) {
         value_of(code, from as usize, ((to - from) / 4) as usize, r, memory)
     } else {
         0

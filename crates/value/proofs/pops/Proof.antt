@@ -17,12 +17,14 @@ returns-2 c =
 returns-3 : tie.Need-returns-3
 unfolding pops
 returns-3 c =
-    rw (le-ltb (c .before .before .before .args .kind) 3 (c .before .before .if1 .left), ne-eqb (c .before .before .before .args .kind) 5 (c .before .if2 .left), lt-ltb (c .before .before .before .args .kind) 8 (c .if3 .taken))
+    let kind = c .before .before .before .args .kind in
+    rw (le-ltb kind 3 (c .before .before .if1 .left), ne-eqb kind 5 (c .before .if2 .left), lt-ltb kind 8 (c .if3 .taken))
 
 returns-4 : tie.Need-returns-4
 unfolding pops
 returns-4 c =
-    rw (le-ltb (c .before .before .before .args .kind) 3 (c .before .before .if1 .left), ne-eqb (c .before .before .before .args .kind) 5 (c .before .if2 .left), le-ltb (c .before .before .before .args .kind) 8 (c .if3 .left))
+    let kind = c .before .before .before .args .kind in
+    rw (le-ltb kind 3 (c .before .before .if1 .left), ne-eqb kind 5 (c .before .if2 .left), le-ltb kind 8 (c .if3 .left))
 
 pub pops-spec : {M : Type 1} → statement M
 pops-spec = tie.close (tie.spec returns returns-2 returns-3 returns-4)

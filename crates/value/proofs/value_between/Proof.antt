@@ -3,10 +3,13 @@ use native.Mathlib.Omega.{arith}
 use lib.Dec.{leb}
 use borrow.Author.Tests.{leb-true}
 use Rattle.characters.proofs.Tests.{and-left, and-right}
-use Rattle.value.specs.Words.{between}
+use Rattle.value.specs.Words.{codePlaces, between}
 use borrow.Author.Needs.{needs}
 use Rattle.value.proofs.value_between.Statement.{statement}
 use Rattle.value.proofs.value_between.Tie as tie
+
+cast-if1 : tie.Need-cast-if1
+cast-if1 c = search needs
 
 sub-value-of : tie.Need-sub-value-of
 sub-value-of c =
@@ -17,9 +20,9 @@ cast-value-of c = search needs
 
 value-of-requires : tie.Need-value-of-requires
 value-of-requires c κs =
-    let h = leb-true (c .before .before .args .from) (c .before .before .args .to) (and-left (leb (c .before .before .args .from) (c .before .before .args .to)) (leb (c .before .before .args .to) 4896) (c .if1 .taken)) in
-    let k = leb-true (c .before .before .args .to) 4896 (and-right (leb (c .before .before .args .from) (c .before .before .args .to)) (leb (c .before .before .args .to) 4896) (c .if1 .taken)) in
-    (omega (arith, h, k), c .before .before .pre)
+    let a = c .before .before .args in
+    let last = leb-true (a .to) codePlaces (and-right (leb (a .from) (a .to)) (leb (a .to) codePlaces) (c .if1 .taken)) in
+    (omega (arith, sub-value-of c, last), c .before .before .pre)
 
 returns : tie.Need-returns
 unfolding between
@@ -33,4 +36,4 @@ returns-2 c =
 
 pub value-between-spec : {M : Type 1} → statement M
 value-between-spec =
-    tie.close (tie.spec sub-value-of cast-value-of value-of-requires returns returns-2)
+    tie.close (tie.spec cast-if1 sub-value-of cast-value-of value-of-requires returns returns-2)

@@ -4,7 +4,7 @@ use Prim.Native.Nat.{_+_, _*_, _≤_}
 use native.Mathlib.Omega.{arith}
 use lib.ListN.{getD}
 use Rattle.value.specs.Value.{State}
-use Rattle.value.specs.Words.{Stack, executed, empty}
+use Rattle.value.specs.Words.{Stack, stackPlaces, executed, empty, codePlaces}
 use Rattle.value.proofs.Words.{few-pops, one-word, no-words}
 use borrow.Author.Needs.{needs}
 use Rattle.value.proofs.value_of.Statement.{statement}
@@ -12,7 +12,7 @@ use Rattle.value.proofs.value_of.Tie as tie
 
 abbrev Inv-loop : tie.InvT-loop
 Inv-loop code from n r memory stack₀ depth₀ at₀ left₀ stack depth at left =
-    (at + 4 * left ≤ 4896) × (depth ≤ 32)
+    (at + 4 * left ≤ codePlaces) × (depth ≤ stackPlaces)
     × (executed (record { registers = r; memory = memory }) code from n empty ≡ executed (record { registers = r; memory = memory }) code at left (record { places = stack; depth = depth }))
 
 abbrev μ-loop : tie.MeasureT-loop
@@ -93,12 +93,13 @@ loop-less c =
 
 loop-again : tie.Need-loop-again Inv-loop μ-loop
 loop-again c =
+    let test = c .before .before .before .loop-test .taken in
     let l = c .before .before .before .before .loop in
     let a = c .before .before .before .before .before .before .args in
     let s : State = record { registers = a .r .now; memory = a .memory .now } in (
-      omega (arith, l .inv .0, c .before .before .before .loop-test .taken),
+      omega (arith, l .inv .0, test),
       search needs,
-      l .inv .2 ∙ one-word s (a .code .now) (l .at) (l .stack) (l .depth) (c .before .pops .result) (c .word-value .result) (l .left) (c .before .before .before .loop-test .taken) (c .before .pops .ensures) (c .word-value .ensures),
+      l .inv .2 ∙ one-word s (a .code .now) (l .at) (l .stack) (l .depth) _ _ (l .left) test (c .before .pops .ensures) (c .word-value .ensures),
     )
 
 array-read-result : tie.Need-array-read-result Inv-loop μ-loop
@@ -109,7 +110,8 @@ returns : tie.Need-returns Inv-loop μ-loop
 returns c =
     let l = c .before .loop in
     let a = c .before .before .before .args in
-    sym (ap (λ (z : Stack). getD (z .places) 0 0) (l .inv .2 ∙ no-words (record { registers = a .r .now; memory = a .memory .now }) (a .code .now) (l .at) (l .left) (record { places = l .stack; depth = l .depth }) (c .loop-test .left)))
+    let s : State = record { registers = a .r .now; memory = a .memory .now } in
+    sym (ap (λ (z : Stack). getD (z .places) 0 0) (l .inv .2 ∙ no-words s (a .code .now) (l .at) (l .left) _ (c .loop-test .left)))
 
 pub value-of-spec : {M : Type 1} → statement M
 value-of-spec =

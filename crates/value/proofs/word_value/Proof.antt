@@ -45,9 +45,8 @@ load-requires c κs = search needs
 returns : tie.Need-returns
 unfolding wordValue
 returns c =
-    let k = c .before .before .before .before .before .before .before .args .code .now in
-    let at = c .before .before .before .before .before .before .before .args .at in
-    rw (lt-ltb (getD k at 0) 3 (c .before .before .before .before .if1 .taken)) (c .load .ensures)
+    let a = c .before .before .before .before .before .before .before .args in
+    rw (lt-ltb (getD (a .code .now) (a .at) 0) 3 (c .before .before .before .before .if1 .taken)) (c .load .ensures)
 
 cast-result : tie.Need-cast-result
 cast-result c = search needs
@@ -82,16 +81,16 @@ operate-requires c κs = search needs
 returns-2 : tie.Need-returns-2
 unfolding wordValue
 returns-2 c =
-    let k = c .before .before .before .before .before .args .code .now in
-    let at = c .before .before .before .before .before .args .at in
-    rw (le-ltb (getD k at 0) 3 (c .before .before .if1 .left), eq-eqb (getD k at 0) 3 (c .before .if2 .taken))
+    let a = c .before .before .before .before .before .args in
+    let kind = getD (a .code .now) (a .at) 0 in
+    rw (le-ltb kind 3 (c .before .before .if1 .left), eq-eqb kind 3 (c .before .if2 .taken))
 
 returns-3 : tie.Need-returns-3
 unfolding wordValue
 returns-3 c =
-    let k = c .before .before .before .before .before .before .before .args .code .now in
-    let at = c .before .before .before .before .before .before .before .args .at in
-    rw (le-ltb (getD k at 0) 3 (c .before .before .before .before .if1 .left), ne-eqb (getD k at 0) 3 (c .before .before .before .if2 .left)) (c .operate .ensures)
+    let a = c .before .before .before .before .before .before .before .args in
+    let kind = getD (a .code .now) (a .at) 0 in
+    rw (le-ltb kind 3 (c .before .before .before .before .if1 .left), ne-eqb kind 3 (c .before .before .before .if2 .left)) (c .operate .ensures)
 
 pub word-value-spec : {M : Type 1} → statement M
 word-value-spec =

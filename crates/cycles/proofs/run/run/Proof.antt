@@ -31,7 +31,8 @@ cycle-requires c κs =
 
 add-done : tie.Need-add-done Inv-loop μ-loop
 add-done c =
-    omega (arith, c .before .before .before .before .before .before .before .before .before .loop-test .taken, c .before .before .before .before .before .before .before .before .before .before .before .before .fits)
+    let b = c .before .before .before .before .before .before .before .before .before in
+    omega (arith, b .loop-test .taken, b .before .before .before .fits)
 
 loop-less : tie.Need-loop-less Inv-loop μ-loop
 loop-less c =
@@ -39,7 +40,10 @@ loop-less c =
 
 loop-again : tie.Need-loop-again Inv-loop μ-loop
 loop-again c =
-    going-next _ _ _ _ _ _ _ _ _ _ (c .before .before .before .before .before .before .before .before .before .before .loop .inv) (c .before .before .before .before .before .before .before .value-at .result) _ _ _ _ (c .before .before .before .before .before .before .before .before .before .loop-test .taken) (c .before .before .before .before .before .before .before .value-at .ensures) (c .before .before .before .before .before .before .if1 .left) (c .before .before .before .cycle .ensures)
+    let r = c .before .before .before in
+    let v = r .before .before .before .before in
+    let b = v .before .before in
+    going-next _ _ _ _ _ _ _ _ _ _ (b .before .loop .inv) (v .value-at .result) _ _ _ _ (b .loop-test .taken) (v .value-at .ensures) (r .before .before .before .if1 .left) (r .cycle .ensures)
 
 value-at-requires-2 : tie.Need-value-at-requires-2 Inv-loop μ-loop
 value-at-requires-2 c κs = search needs
@@ -54,9 +58,10 @@ same-length c =
 returns : tie.Need-returns Inv-loop μ-loop
 returns c =
     let g = c .before .before .before .before .loop .inv in
+    let v = c .before .value-at2 in
     elim (c .before .before .before .loop-test .came) [
-      | inl x ↦ going-spent _ _ _ _ _ _ _ _ _ _ g (c .before .value-at2 .result) _ (c .before .value-at2 .ensures) (c .reason .ensures) refl refl refl (x .left)
-      | inr y ↦ going-halted _ _ _ _ _ _ _ _ _ _ g (c .before .value-at2 .result) (y .2 .result) _ (c .before .value-at2 .ensures) (c .reason .ensures) refl refl refl (y .2 .ensures) (y .3 .taken)
+      | inl x ↦ going-spent _ _ _ _ _ _ _ _ _ _ g (v .result) _ (v .ensures) (c .reason .ensures) refl refl refl (x .left)
+      | inr y ↦ going-halted _ _ _ _ _ _ _ _ _ _ g (v .result) _ (v .ensures) (c .reason .ensures) refl refl refl (y .2 .result) (y .2 .ensures) (y .3 .taken)
     ]
 
 pub run-spec : {M : Type 1} → statement M

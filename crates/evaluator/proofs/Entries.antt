@@ -1,17 +1,17 @@
 -- The entry's laws: what the reader's tables, the checks and the run over the tables come to, by the definitions.
 -- Assumes nothing.
-use mathlib.Core.Path.{_≡_, refl, sym, ap, subst, _∙_}
+use mathlib.Core.Path.{_≡_, refl, sym, ap, ap₂, subst, _∙_}
 use mathlib.Core.Bool.{Bool, true, false}
 use mathlib.Core.List.{List, [], _∷_, _++_}
-use Prim.Native.Nat.{ℕ, suc, _%_, _≤_, _<_}
+use Prim.Native.Nat.{ℕ, suc, _*_, _%_, _≤_, _<_}
 use native.Mathlib.Nat.{mod-eq-of-lt}
 use native.Mathlib.Omega.{arith}
 use lib.Dec.{eqb, ltb}
-use lib.ListN.{length, getD, take, drop, List·getD-map, List·getD-eq-default}
+use lib.ListN.{length, getD, take, drop, List·getD-eq-default}
 use borrow.Author.Tests.{ltb-true, ltb-false}
 use Rattle.word.specs.Choice.{pick}
 use Rattle.word.specs.Word.{widest, fits}
-use Rattle.state.specs.Limits.{rowPlaces}
+use Rattle.state.specs.Limits.{memoryWords}
 use Rattle.state.specs.Refusals.{orElse}
 use Rattle.state.specs.Refusals as state
 use Rattle.state.specs.Checks.{firstUnfit, checkMemory, checkRegisters, checkBudget, checkState, checkRowList}
@@ -21,24 +21,34 @@ use Rattle.state.specs.declared.Refusal.the-variants.{Register}
 use Rattle.state.specs.declared.Verdict.{Verdict}
 use Rattle.state.specs.declared.Verdict.the-variants.{Fit, Unfit}
 use Rattle.state.proofs.Accepted.{memory-acceptable, registers-fitting, row-list-long, both-fit}
+use Rattle.text_limits.specs.Limits.{mostRows}
 use Rattle.names.specs.Names.{Named, entries, find}
-use Rattle.names.specs.declared.Dictionary.{Dictionary}
 use Rattle.characters.proofs.Tests.{by-test, and-left}
 use Rattle.bit_parts.specs.References.{widthIn}
 use Rattle.bit_parts.proofs.Listed.{entries-length, width-is}
 use Rattle.code.proofs.Formed.{register-width}
 use Rattle.declaration.specs.Rows.{Description}
+use Rattle.declaration.specs.Faults.{numberOf}
 use Rattle.declaration.specs.declared.faults.Fault.{Fault}
-use Rattle.description.specs.Description.{accepted, turnedDown, runName, readText}
+use Rattle.row_table.specs.RowTable.{rowCells}
+use Rattle.description.specs.declared.reader.Answer as reader
+use Rattle.description.specs.declared.reader.Verdict as verdict
+use Rattle.description.specs.declared.reader.Verdict.the-variants.{Accepted, Refused}
+use Rattle.description.specs.Description.{runName, readText}
 use Rattle.description.specs.Formed.{Formed}
+use Rattle.description.specs.Stored.{answerBy, Answers}
+use Rattle.description.proofs.Formed.{accepted-keeps}
 use Rattle.value.specs.Value.{State}
-use Rattle.cycles.specs.Run.{Run, running, run}
-use Rattle.evaluator.specs.Evaluate.{refused, finished, widthsOf, check, evaluateOf, evaluate, outcomeOf, report}
-use Rattle.evaluator.specs.declared.Outcome.the-variants.{Ran}
-use Rattle.cycles.specs.declared.run.Course as course
 use Rattle.value.specs.Fitting.{registerPlaces}
 use Rattle.value.specs.Fitting as fitting
-use Rattle.cycles.specs.Stored.{runAt, Coursed}
+use Rattle.value.specs.Words.{codePlaces}
+use Rattle.value.proofs.Widths.{width-of}
+use Rattle.cycles.specs.Run.{Run, running, run}
+use Rattle.cycles.specs.declared.run.Course as course
+use Rattle.cycles.specs.Stored.{runAt, coursing, Coursed}
+use Rattle.cycles.proofs.TableRuns.{tables-run}
+use Rattle.evaluator.specs.Evaluate.{Report, refused, finished, widthsOf, check, evaluateOf, evaluate, outcomeOf, report}
+use Rattle.evaluator.specs.declared.Outcome.the-variants.{Ran}
 use Rattle.evaluator.specs.Padded.{widthAt, padded, checkPadded}
 use Rattle.evaluator.proofs.Padding.{padded-at, padded-past}
 
@@ -55,110 +65,113 @@ state-ext v w e values memory budget =
     ap (λ (n : ℕ). orElse (checkMemory memory) (orElse (pick (ltb n (length values)) (Unfit (Register n)) Fit) (checkBudget budget)))
     (unfit-ext (λ k. getD v k 0) (λ k. getD w k 0) e 0 values)
 
--- a description whose registers a dictionary tells of a text
-module _ (text : List ℕ) (names : Dictionary) (d : Description) (are : d .registers ≡ entries text names) (formed : Formed d) where
-  count-is : length (d .registers) ≡ names .count
-  count-is = ap length are ∙ entries-length text names
+-- a text, what the reader answers, and the tables that it leaves
+module _ (text : List ℕ) (r : reader.Answer) {code₀ code table₀ table : List ℕ} (answers : Answers text (readText text) r code₀ code table₀ table) where
+  abbrev described : Description
+  described = record { registers = entries text (r .registers); rows = answers .rows }
 
-  width-told : (k : ℕ) → k < names .count → widthIn (d .registers) k ≡ getD (names .numbers) k 0
-  width-told k h = ap (λ (rs : List Named). widthIn rs k) are ∙ width-is text names k h
+  read-is : {v : verdict.Verdict} → r .verdict ≡ v → readText text ≡ answerBy v described
+  read-is e = answers .is ∙ ap (λ (v : verdict.Verdict). answerBy v described) e
 
-  pub widths-narrow : (k : ℕ) → widthAt names k ≤ widest
-  widths-narrow k =
-      by-test (ltb k (names .count))
-      (λ t.
-      let h : k < names .count = ltb-true k (names .count) t in
-      subst (λ (n : ℕ). n ≤ widest) (sym (ap (λ (b : Bool). pick b (getD (names .numbers) k 0) 0) t ∙ sym (width-told k h)))
-      (register-width (d .registers) k (formed .registers-fit) (omega (arith, count-is, h)) .1))
-      (λ t. subst (λ (n : ℕ). n ≤ widest) (sym (ap (λ (b : Bool). pick b (getD (names .numbers) k 0) 0) t)) (omega arith))
-
-  list-at : (k : ℕ) → getD (widthsOf d) k 0 ≡ widthIn (d .registers) k
-  list-at k = List·getD-map (λ (e : Named). e .number) (d .registers) k (record { name = []; number = 0 })
-
-  none-past : (k : ℕ) → length (d .registers) ≤ k → widthIn (d .registers) k ≡ 0
-  none-past k h = ap (λ (e : Named). e .number) (List·getD-eq-default (d .registers) (record { name = []; number = 0 }) h)
-
-  same-width : (k : ℕ) → getD (padded names) k 0 ≡ getD (widthsOf d) k 0
-  same-width k =
-      by-test (ltb k registerPlaces)
-      (λ t.
-      padded-at names k (ltb-true k registerPlaces t)
-      ∙ by-test (ltb k (names .count))
-      (λ u. ap (λ (b : Bool). pick b (getD (names .numbers) k 0) 0) u ∙ sym (width-told k (ltb-true k (names .count) u)) ∙ sym (list-at k))
-      (λ u. ap (λ (b : Bool). pick b (getD (names .numbers) k 0) 0) u ∙ sym (none-past k (omega (arith, count-is, ltb-false k (names .count) u))) ∙ sym (list-at k)))
-      (λ t. padded-past names k (ltb-false k registerPlaces t) ∙ sym (none-past k (omega (arith, formed .few-registers, ltb-false k registerPlaces t))) ∙ sym (list-at k))
-
-  pub checked : (registers memory : List ℕ) (budget : ℕ) (list : List ℕ)
-      → orElse (checkPadded names registers memory budget) (checkRowList (length list)) ≡ check d registers memory budget list
-  checked registers memory budget list =
-      ap (λ (v : Verdict). orElse v (checkRowList (length list))) (state-ext (padded names) (widthsOf d) same-width registers memory budget)
-
-  -- RUN's place
-  run-below : find runName (d .registers) < registerPlaces
-  run-below =
-      let h = ltb-true (find runName (d .registers)) (length (d .registers)) (and-left (ltb (find runName (d .registers)) (length (d .registers))) (eqb (widthIn (d .registers) (find runName (d .registers))) 1) (formed .has-run)) in
-      omega (arith, h, formed .few-registers)
-
-  pub run-read : (place : ℕ) → place ≡ find runName (entries text names) → (s : State) → runAt place s ≡ running d s
-  run-read place e s =
-      let i = e ∙ ap (find runName) (sym are) in
-      ap (λ (k : ℕ). getD (s .registers) k 0) (ap (λ (k : ℕ). k % registerPlaces) i ∙ mod-eq-of-lt run-below)
-
--- what passes the checks
-module _ (d : Description) (registers memory : List ℕ) (budget : ℕ) (list : List ℕ) (e : check d registers memory budget list ≡ Fit) where
-  pub check-fits : length registers ≡ registerPlaces → fitting.Fit (d .registers) (record { registers = registers; memory = memory })
-  check-fits places =
-      let outer = both-fit (checkState (widthsOf d) registers memory budget) (checkRowList (length list)) e in
-      let first = both-fit (checkMemory memory) (orElse (checkRegisters (widthsOf d) registers) (checkBudget budget)) (outer .0) in
-      let second = both-fit (checkRegisters (widthsOf d) registers) (checkBudget budget) (first .1) in
-      record { places = places; values = registers-fitting (widthsOf d) registers (second .0); words = memory-acceptable memory (first .0) }
-
-  pub check-room : rowPlaces ≤ length list
-  check-room =
-      let outer = both-fit (checkState (widthsOf d) registers memory budget) (checkRowList (length list)) e in
-      row-list-long (length list) (outer .1)
-
--- the answer of each way
-module _ (text registers memory : List ℕ) (budget : ℕ) (list : List ℕ) where
-  pub text-refused : (f : Fault) (n : ℕ) → readText text ≡ turnedDown f n → evaluate text registers memory budget list ≡ refused (Rattle.declaration.specs.Faults.numberOf f) n registers memory list
+  pub text-refused : (registers memory : List ℕ) (budget : ℕ) (list : List ℕ) (f : Fault) (n : ℕ) → r .verdict ≡ Refused f n
+      → evaluate text registers memory budget list ≡ refused (numberOf f) n registers memory list
   unfolding evaluate evaluateOf
-  text-refused f n e = ap (λ a. evaluateOf a registers memory budget list) e
+  text-refused registers memory budget list f n e = ap (λ a. evaluateOf a registers memory budget list) (read-is e)
 
-  module _ (d : Description) (e : readText text ≡ accepted d) where
-    opened : evaluate text registers memory budget list
-        ≡ elim (check d registers memory budget list) [
-          | Fit ↦ finished (run d budget (record { registers = registers; memory = memory })) list
-          | Unfit why ↦ refused (state.numberOf why) (state.placeOf why) registers memory list
-        ]
-    unfolding evaluate evaluateOf
-    opened = ap (λ a. evaluateOf a registers memory budget list) e
+  -- a text that is taken
+  module _ (told : r .verdict ≡ Accepted) where
+    formed : Formed described
+    formed = accepted-keeps text described (read-is told) .formed
 
-    pub state-refused : (why : Refusal) → check d registers memory budget list ≡ Unfit why
-        → evaluate text registers memory budget list ≡ refused (state.numberOf why) (state.placeOf why) registers memory list
-    state-refused why h =
-        opened
-        ∙ ap (λ (v : Verdict). elim v [
-          | Fit ↦ finished (run d budget (record { registers = registers; memory = memory })) list
-          | Unfit w ↦ refused (state.numberOf w) (state.placeOf w) registers memory list
-        ]) h
+    count-is : length (described .registers) ≡ r .registers .count
+    count-is = entries-length text (r .registers)
 
-    pub evaluated : check d registers memory budget list ≡ Fit
-        → evaluate text registers memory budget list ≡ finished (run d budget (record { registers = registers; memory = memory })) list
-    evaluated h =
-        opened
-        ∙ ap (λ (v : Verdict). elim v [
-          | Fit ↦ finished (run d budget (record { registers = registers; memory = memory })) list
-          | Unfit w ↦ refused (state.numberOf w) (state.placeOf w) registers memory list
-        ]) h
+    -- the width at a place, 0 where there is no register
+    none-past : (k : ℕ) → length (described .registers) ≤ k → widthIn (described .registers) k ≡ 0
+    none-past k h = ap (λ (e : Named). e .number) (List·getD-eq-default (described .registers) (record { name = []; number = 0 }) h)
+
+    width-told : (k : ℕ) → widthAt (r .registers) k ≡ widthIn (described .registers) k
+    width-told k =
+        by-test (ltb k (r .registers .count))
+        (λ t. ap (λ (b : Bool). pick b (getD (r .registers .numbers) k 0) 0) t ∙ sym (width-is text (r .registers) k (ltb-true k (r .registers .count) t)))
+        (λ t. ap (λ (b : Bool). pick b (getD (r .registers .numbers) k 0) 0) t ∙ sym (none-past k (omega (arith, count-is, ltb-false k (r .registers .count) t))))
+
+    pub widths-narrow : (k : ℕ) → widthAt (r .registers) k ≤ widest
+    widths-narrow k =
+        subst (λ (n : ℕ). n ≤ widest) (sym (width-told k))
+        (by-test (ltb k (length (described .registers)))
+        (λ t. register-width (described .registers) k (formed .registers-fit) (ltb-true k (length (described .registers)) t) .1)
+        (λ t. subst (λ (n : ℕ). n ≤ widest) (sym (none-past k (ltb-false k (length (described .registers)) t))) (omega arith)))
+
+    same-width : (k : ℕ) → getD (padded (r .registers)) k 0 ≡ getD (widthsOf described) k 0
+    same-width k =
+        by-test (ltb k registerPlaces)
+        (λ t. padded-at (r .registers) k (ltb-true k registerPlaces t) ∙ width-told k)
+        (λ t. padded-past (r .registers) k (ltb-false k registerPlaces t) ∙ sym (none-past k (omega (arith, formed .few-registers, ltb-false k registerPlaces t))))
+        ∙ sym (width-of (described .registers) k refl)
+
+    -- RUN's place
+    run-below : find runName (described .registers) < registerPlaces
+    run-below =
+        let place = find runName (described .registers) in
+        let h = ltb-true place (length (described .registers)) (and-left (ltb place (length (described .registers))) (eqb (widthIn (described .registers) place) 1) (formed .has-run)) in
+        omega (arith, h, formed .few-registers)
+
+    run-read : (place : ℕ) → place ≡ find runName (described .registers) → (s : State) → runAt place s ≡ running described s
+    run-read place e s = ap (λ (k : ℕ). getD (s .registers) k 0) (ap (λ (k : ℕ). k % registerPlaces) e ∙ mod-eq-of-lt run-below)
+
+    -- a state, and what the checks by the dictionary's widths found of it
+    module _ (registers memory : List ℕ) (budget : ℕ) (list : List ℕ) {found : Verdict}
+        (found-is : found ≡ orElse (checkPadded (r .registers) registers memory budget) (checkRowList (length list))) where
+      abbrev start : State
+      start = record { registers = registers; memory = memory }
+
+      checked : found ≡ check described registers memory budget list
+      checked = found-is ∙ ap (λ (v : Verdict). orElse v (checkRowList (length list))) (state-ext (padded (r .registers)) (widthsOf described) same-width registers memory budget)
+
+      abbrev by-verdict : Verdict → Report
+      by-verdict Fit = finished (run described budget start) list
+      by-verdict (Unfit why) = refused (state.numberOf why) (state.placeOf why) registers memory list
+
+      evaluated : {v : Verdict} → found ≡ v → evaluate text registers memory budget list ≡ by-verdict v
+      unfolding evaluate evaluateOf
+      evaluated e = ap (λ a. evaluateOf a registers memory budget list) (read-is told) ∙ ap by-verdict (sym checked ∙ e)
+
+      pub state-refused : (why : Refusal) → found ≡ Unfit why → evaluate text registers memory budget list ≡ refused (state.numberOf why) (state.placeOf why) registers memory list
+      state-refused why e = evaluated e
+
+      -- a state that passes the checks
+      module _ (e : found ≡ Fit) where
+        outer : (checkState (widthsOf described) registers memory budget ≡ Fit) × (checkRowList (length list) ≡ Fit)
+        outer = both-fit (checkState (widthsOf described) registers memory budget) (checkRowList (length list)) (sym checked ∙ e)
+
+        first : (checkMemory memory ≡ Fit) × (orElse (checkRegisters (widthsOf described) registers) (checkBudget budget) ≡ Fit)
+        first = both-fit (checkMemory memory) (orElse (checkRegisters (widthsOf described) registers) (checkBudget budget)) (outer .0)
+
+        -- the rows are within their limit, memory has its words, and the caller's list has room
+        pub run-ready : (r .rows ≤ mostRows) × ((length memory ≡ memoryWords) × (mostRows ≤ length list))
+        run-ready =
+            (omega (arith, answers .rows-are told, formed .few-rows), (memory-acceptable memory (first .0) .size, row-list-long (length list) (outer .1)))
+
+        fits-registers : length registers ≡ registerPlaces → fitting.Fit (described .registers) start
+        fits-registers places =
+            let second = both-fit (checkRegisters (widthsOf described) registers) (checkBudget budget) (first .1) in
+            record { places = places; values = registers-fitting (widthsOf described) registers (second .0); words = memory-acceptable memory (first .0) }
+
+        pub run-told : length registers ≡ registerPlaces → length code₀ ≡ codePlaces → length table₀ ≡ rowCells * mostRows
+            → (place : ℕ) → place ≡ find runName (described .registers)
+            → finished (coursing code table (r .rows) place budget start) list ≡ evaluate text registers memory budget list
+        run-told places lc lt place p =
+            ap (λ (x : Run). finished x list)
+            (tables-run described formed code₀ table₀ code table (r .rows) place (answers .rows-are told) lc lt (answers .code-is told) (answers .table-is told)
+            (run-read place p) budget start (fits-registers places))
+            ∙ sym (evaluated e)
 
 -- a run's end and the rows put at the front of a caller's list
 pub finish : (x : Run) (t : course.Course) (memory list rows rows′ : List ℕ) → Coursed x t memory list → rows′ ≡ take (t .listed) list ++ drop (t .listed) rows
     → report (record { registers = t .registers; outcome = Ran (t .reason) (t .steps) (t .listed) }) memory rows′ ≡ finished x rows
 finish x t memory list rows rows′ k e =
-    ap (λ (l : List ℕ). outcomeOf (Ran (t .reason) (t .steps) (t .listed)) l memory rows′) (ap (λ (s : State). s .registers) (k .state-is))
-    ∙ ap (λ (l : List ℕ). outcomeOf (Ran (t .reason) (t .steps) (t .listed)) (x .state .registers) l rows′) (ap (λ (s : State). s .memory) (k .state-is))
-    ∙ ap (λ (l : List ℕ). outcomeOf (Ran (t .reason) (t .steps) (t .listed)) (x .state .registers) (x .state .memory) l)
-    (e ∙ ap (λ (l : List ℕ). l ++ drop (t .listed) rows) (k .list-is) ∙ ap (λ (n : ℕ). x .acted ++ drop n rows) (k .count-is))
-    ∙ ap (λ (n : ℕ). outcomeOf (Ran (t .reason) (t .steps) n) (x .state .registers) (x .state .memory) (x .acted ++ drop (length (x .acted)) rows)) (k .count-is)
-    ∙ ap (λ (n : ℕ). outcomeOf (Ran (t .reason) n (length (x .acted))) (x .state .registers) (x .state .memory) (x .acted ++ drop (length (x .acted)) rows)) (k .steps-are)
-    ∙ ap (λ (w : Reason). outcomeOf (Ran w (x .steps) (length (x .acted))) (x .state .registers) (x .state .memory) (x .acted ++ drop (length (x .acted)) rows)) (k .reason-is)
+    ap (λ (s : State). outcomeOf (Ran (t .reason) (t .steps) (t .listed)) (s .registers) (s .memory) rows′) (k .state-is)
+    ∙ ap₂ (λ (w : Reason) (n : ℕ). outcomeOf (Ran w n (t .listed)) (x .state .registers) (x .state .memory) rows′) (k .reason-is) (k .steps-are)
+    ∙ ap₂ (λ (n : ℕ) (l : List ℕ). outcomeOf (Ran (x .reason) (x .steps) n) (x .state .registers) (x .state .memory) l) (k .count-is)
+    (e ∙ ap₂ (λ (l : List ℕ) (n : ℕ). l ++ drop n rows) (k .list-is) (k .count-is))

@@ -1,4 +1,4 @@
--- The widths of the sixteen places, and what the checks make of them.
+-- The widths of the sixteen places, how a loop fills them in, and what the checks make of them.
 -- Assumes nothing.
 use mathlib.Core.Path.{_≡_, refl, sym, ap, subst, _∙_}
 use mathlib.Core.List.{List}
@@ -6,19 +6,19 @@ use Prim.Native.Nat.{ℕ, zero, suc, _+_, _≤_, _<_}
 use native.Mathlib.Nat.{zero-add, add-zero}
 use native.Mathlib.Omega.{arith}
 use lib.Dec.{eqb, ltb}
-use lib.ListN.{length, getD, set, List·getD-eq-default}
+use lib.ListN.{length, getD, set, length-set, List·getD-eq-default}
 use lib.Seq.{ext-getD, getD-set-same, getD-set-other}
 use borrow.Author.Tests.{ltb-true, ltb-false, eqb-true, eqb-false}
 use Rattle.word.specs.Word.{widest}
 use Rattle.state.specs.Refusals.{orElse}
-use Rattle.state.specs.declared.Refusal.{Refusal}
+use Rattle.state.specs.Checks.{checkState}
 use Rattle.state.specs.declared.Verdict.{Verdict}
-use Rattle.state.specs.declared.Verdict.the-variants.{Fit, Unfit}
 use Rattle.names.specs.declared.Dictionary.{Dictionary}
 use Rattle.characters.proofs.Tests.{by-test}
-use Rattle.evaluator.specs.Padded.{widthAt, widthsFrom, padded}
+use Rattle.evaluator.specs.Padded.{widthAt, widthsFrom, padded, checkPadded}
 use Rattle.value.specs.Fitting.{registerPlaces}
 
+-- n widths from place k on: their number, and each of them
 from-length : (d : Dictionary) (n k : ℕ) → length (widthsFrom d k n) ≡ n
 unfolding widthsFrom
 from-length d zero k = refl
@@ -30,7 +30,7 @@ from-at d zero k i h = absurd (omega arith)
 from-at d (suc n) k zero h = ap (widthAt d) (sym (add-zero k))
 from-at d (suc n) k (suc i) h = from-at d n (suc k) i (omega arith) ∙ ap (widthAt d) {x = suc k + i} {y = k + suc i} (omega arith)
 
-pub padded-length : (d : Dictionary) → length (padded d) ≡ registerPlaces
+padded-length : (d : Dictionary) → length (padded d) ≡ registerPlaces
 padded-length d = from-length d registerPlaces 0
 
 pub padded-at : (d : Dictionary) (k : ℕ) → k < registerPlaces → getD (padded d) k 0 ≡ widthAt d k
@@ -52,11 +52,11 @@ pub record Filled (d : Dictionary) (i : ℕ) (w : List ℕ) : Type 0 where
   pub size : length w ≡ registerPlaces
   pub are : (k : ℕ) → k < i → getD w k 0 ≡ widthAt d k
 
-pub filled-next : (d : Dictionary) (i : ℕ) (w : List ℕ) (x : ℕ) → Filled d i w → i < registerPlaces → x ≡ widthAt d i → length (set w i x) ≡ registerPlaces → Filled d (i + 1) (set w i x)
-filled-next d i w x f h e l =
+pub filled-next : (d : Dictionary) (i : ℕ) (w : List ℕ) (x : ℕ) → Filled d i w → i < registerPlaces → x ≡ widthAt d i → Filled d (i + 1) (set w i x)
+filled-next d i w x f h e =
     record {
       within = omega arith;
-      size = l;
+      size = length-set w i x ∙ f .size;
       are = λ k q.
           by-test (eqb k i)
           (λ t.
@@ -72,8 +72,8 @@ pub filled-end : (d : Dictionary) (i : ℕ) (w : List ℕ) → Filled d i w → 
 filled-end d i w f h =
     ext-getD 0 w (padded d) (f .size ∙ sym (padded-length d)) (λ k q. f .are k (omega (arith, f .size)) ∙ sym (padded-at d k (omega (arith, f .size))))
 
-pub or-fit : (x y : Verdict) → x ≡ Fit → orElse x y ≡ y
-or-fit x y e = rw e
-
-pub or-unfit : (x y : Verdict) (why : Refusal) → x ≡ Unfit why → orElse x y ≡ Unfit why
-or-unfit x y why e = rw e
+-- the checks by the widths that were found, then another
+pub padded-check : (d : Dictionary) {w : List ℕ} (values memory : List ℕ) (budget : ℕ) {found v : Verdict} (later : Verdict)
+    → w ≡ padded d → found ≡ checkState w values memory budget → found ≡ v → orElse (checkPadded d values memory budget) later ≡ orElse v later
+padded-check d values memory budget later e f g =
+    ap (λ (x : Verdict). orElse x later) (ap (λ (l : List ℕ). checkState l values memory budget) (sym e) ∙ sym f ∙ g)

@@ -1,7 +1,6 @@
 -- The widths of the sixteen places, as the reader's dictionary has them, and the checks by them.
 -- Everything here is total, whatever stands in the dictionary.
 -- Assumes nothing.
-use mathlib.Core.Path.{_≡_}
 use mathlib.Core.List.{List, [], _∷_}
 use Prim.Native.Nat.{ℕ, zero, suc}
 use lib.Dec.{ltb}
@@ -24,9 +23,6 @@ widthsFrom d k (suc n) = widthAt d k ∷ widthsFrom d (suc k) n
 -- the sixteen places' widths
 abbrev pub padded : Dictionary → List ℕ
 padded d = widthsFrom d 0 registerPlaces
-
-pub record Widths (d : Dictionary) (w : List ℕ) : Type 0 where
-  pub are : w ≡ padded d
 
 abbrev pub checkPadded : Dictionary → List ℕ → List ℕ → ℕ → Verdict
 checkPadded d values memory budget = checkState (padded d) values memory budget

@@ -7,7 +7,7 @@ ghost use Prim.Native.Nat.{ℕ, _≤_};
 ghost use Rattle.word.specs.Word.{widest};
 ghost use Rattle.state.specs.Refusals.{orElse};
 ghost use Rattle.state.specs.Checks.{checkRowList};
-ghost use Rattle.evaluator.specs.Padded.{widthAt, Widths, checkPadded};
+ghost use Rattle.evaluator.specs.Padded.{widthAt, padded, checkPadded};
 
 // The width of the register at a place, 0 where there is none.
 fn width_at(d: Dictionary, place: usize) -> u64
@@ -22,7 +22,7 @@ fn width_at(d: Dictionary, place: usize) -> u64
 
 // The widths of the sixteen places.
 fn widths_of(d: Dictionary) -> [u64; 16]
-    ensures { λ w. ⌜ Widths d w ⌝ }
+    ensures { λ w. ⌜ w ≡ padded d ⌝ }
 {
     let mut w = [0u64; 16];
     let mut i = 0;

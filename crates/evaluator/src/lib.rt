@@ -104,17 +104,9 @@ pub fn evaluate(
                     outcome: Outcome::Refused(why),
                 },
                 Verdict::Fit => {
+                    let count = read.rows;
                     let place = names::place_of(text, known, b"RUN");
-                    run_rows(
-                        &code,
-                        &table,
-                        read.rows,
-                        place,
-                        registers,
-                        memory,
-                        budget,
-                        rows,
-                    )
+                    run_rows(&code, &table, count, place, registers, memory, budget, rows)
                 }
             }
         }

@@ -1,13 +1,12 @@
 -- `evaluator::checks::widths_of`: place by place.
-use mathlib.Core.Path.{refl, _∙_}
+use mathlib.Core.Path.{refl}
 use Prim.Native.Nat.{_-_}
 use native.Mathlib.Omega.{arith}
-use lib.ListN.{length-set}
+use Rattle.value.specs.Fitting.{registerPlaces}
 use Rattle.evaluator.proofs.Padding.{Filled, filled-next, filled-end}
 use borrow.Author.Needs.{needs}
 use Rattle.evaluator.proofs.checks.widths_of.Statement.{statement}
 use Rattle.evaluator.proofs.checks.widths_of.Tie as tie
-use Rattle.value.specs.Fitting.{registerPlaces}
 
 abbrev Inv-loop : tie.InvT-loop
 Inv-loop d w₀ i₀ w i =
@@ -43,11 +42,12 @@ loop-less c =
 
 loop-again : tie.Need-loop-again Inv-loop μ-loop
 loop-again c =
-    filled-next (c .before .before .before .args .d) (c .before .before .loop .i) (c .before .before .loop .w) (c .width-at .result) (c .before .before .loop .inv) (c .before .loop-test .taken) (c .width-at .ensures) (length-set (c .before .before .loop .w) (c .before .before .loop .i) (c .width-at .result) ∙ c .before .before .loop .inv .size)
+    let l = c .before .before .loop in
+    filled-next _ (l .i) (l .w) _ (l .inv) (c .before .loop-test .taken) (c .width-at .ensures)
 
 returns : tie.Need-returns Inv-loop μ-loop
 returns c =
-    record { are = filled-end (c .before .before .args .d) (c .before .loop .i) (c .before .loop .w) (c .before .loop .inv) (c .loop-test .left) }
+    filled-end _ (c .before .loop .i) (c .before .loop .w) (c .before .loop .inv) (c .loop-test .left)
 
 pub widths-of-spec : {M : Type 1} → statement M
 widths-of-spec =

@@ -50,29 +50,21 @@ module _ (o : Outcome) where
       ∙ sym (ap (λ (x : Outcome). outcomeOf (evaluator.outcomeOf x regs mem list)) i)
 
 -- an outcome's report holds what stands beside it
-registers-of : (o : Outcome) (regs mem list : List ℕ) → regs ≡ evaluator.outcomeOf o regs mem list .registers
-registers-of (Ran why steps n) regs mem list = refl
-registers-of (Unread f n) regs mem list = refl
-registers-of (Refused why) regs mem list = refl
-
-memory-of : (o : Outcome) (regs mem list : List ℕ) → mem ≡ evaluator.outcomeOf o regs mem list .memory
-memory-of (Ran why steps n) regs mem list = refl
-memory-of (Unread f n) regs mem list = refl
-memory-of (Refused why) regs mem list = refl
-
-list-of : (o : Outcome) (regs mem list : List ℕ) → list ≡ evaluator.outcomeOf o regs mem list .list
-list-of (Ran why steps n) regs mem list = refl
-list-of (Unread f n) regs mem list = refl
-list-of (Refused why) regs mem list = refl
+beside : (o : Outcome) (regs mem list : List ℕ)
+    → (regs ≡ evaluator.outcomeOf o regs mem list .registers) × (mem ≡ evaluator.outcomeOf o regs mem list .memory) × (list ≡ evaluator.outcomeOf o regs mem list .list)
+beside (Ran why steps n) regs mem list = (refl, refl, refl)
+beside (Unread f n) regs mem list = (refl, refl, refl)
+beside (Refused why) regs mem list = (refl, refl, refl)
 
 pub evaluated : (text regs mem : List ℕ) (budget : ℕ) (list regs′ mem′ list′ out′ : List ℕ) (o : Outcome)
     → evaluator.outcomeOf o regs′ mem′ list′ ≡ evaluate text regs mem budget list
     → ((r m l : List ℕ) → out′ ≡ outcomeOf (evaluator.outcomeOf o r m l))
     → Evaluated text regs mem budget list regs′ mem′ list′ out′
 evaluated text regs mem budget list regs′ mem′ list′ out′ o reported numbers =
+    let same = beside o regs′ mem′ list′ in
     record {
-      registers = registers-of o regs′ mem′ list′ ∙ ap (λ (r : Report). r .registers) reported;
-      memory = memory-of o regs′ mem′ list′ ∙ ap (λ (r : Report). r .memory) reported;
-      rows = list-of o regs′ mem′ list′ ∙ ap (λ (r : Report). r .list) reported;
+      registers = same .0 ∙ ap (λ (r : Report). r .registers) reported;
+      memory = same .1 ∙ ap (λ (r : Report). r .memory) reported;
+      rows = same .2 ∙ ap (λ (r : Report). r .list) reported;
       outcome = numbers regs′ mem′ list′ ∙ ap outcomeOf reported;
     }

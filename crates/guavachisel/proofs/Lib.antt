@@ -1,2 +1,2 @@
-pub mod Answers
+mod Answers
 mod Evaluations

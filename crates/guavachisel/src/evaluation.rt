@@ -1,6 +1,5 @@
 // The evaluator for C callers: guavachisel_evaluate of include/guavachisel.h.
 use crate::numbers;
-use crate::reading;
 use evaluator::Outcome;
 use turn::Registers;
 ghost use mathlib.Core.Path.{_≡_};
@@ -15,7 +14,7 @@ fn outcome_numbers(end: Outcome) -> [u64; 4]
 {
     match end {
         Outcome::Ran(why, steps, listed) => [0, steps, numbers::reason_number(why), listed as u64],
-        Outcome::Unread(f, line) => [reading::fault_number(f), line as u64, 0, 0],
+        Outcome::Unread(f, line) => [numbers::fault_number(f), line as u64, 0, 0],
         Outcome::Refused(why) => [
             numbers::refusal_number(why),
             numbers::refusal_place(why),

@@ -1,8 +1,10 @@
-// The numbers by which C callers know reasons and refusals.
+// The numbers by which C callers know reasons, refusals and faults.
+use declaration::faults::Fault;
 use state::Reason;
 use state::Refusal;
 ghost use mathlib.Core.Path.{_≡_};
 ghost use Rattle.state.specs.Refusals.{reasonNumber, numberOf, placeOf};
+ghost use Rattle.declaration.specs.Faults.{numberOf as faultNumber};
 
 // A reason's number.
 pub fn reason_number(reason: Reason) -> u64
@@ -37,5 +39,21 @@ pub fn refusal_place(refusal: Refusal) -> u64
         Refusal::Register(place) => place as u64,
         Refusal::Budget => 0,
         Refusal::RowList => 0,
+    }
+}
+
+// The number of what a text is turned down for.
+pub fn fault_number(f: Fault) -> u64
+    ensures { λ r. ⌜ r ≡ faultNumber f ⌝ }
+{
+    match f {
+        Fault::Size => 1,
+        Fault::Header => 2,
+        Fault::Line => 3,
+        Fault::Register => 4,
+        Fault::Expression => 5,
+        Fault::Label => 6,
+        Fault::Limit => 7,
+        Fault::Run => 8,
     }
 }

@@ -1,28 +1,11 @@
 // The reader for C callers: guavachisel_read of include/guavachisel.h.
+use crate::numbers;
 use code::CODE_PLACES;
-use declaration::faults::Fault;
 use description::reader::Verdict;
 use row_table::TABLE_CELLS;
 ghost use mathlib.Core.Path.{_≡_};
-ghost use Rattle.declaration.specs.Faults.{numberOf};
 ghost use Rattle.description.specs.Description.{readText};
 ghost use Rattle.guavachisel.specs.Reading.{outcomeOf};
-
-// The number of a fault.
-pub(crate) fn fault_number(f: Fault) -> u64
-    ensures { λ r. ⌜ r ≡ numberOf f ⌝ }
-{
-    match f {
-        Fault::Size => 1,
-        Fault::Header => 2,
-        Fault::Line => 3,
-        Fault::Register => 4,
-        Fault::Expression => 5,
-        Fault::Label => 6,
-        Fault::Limit => 7,
-        Fault::Run => 8,
-    }
-}
 
 // Reads a caller's text.
 #[no_mangle]
@@ -38,7 +21,7 @@ pub extern "C" fn guavachisel_read(text: &[u8], outcome: &mut [u64; 2])
             *outcome = [0, 0];
         }
         Verdict::Refused(f, line) => {
-            *outcome = [fault_number(f), line as u64];
+            *outcome = [numbers::fault_number(f), line as u64];
         }
     }
 }

@@ -30,17 +30,21 @@ same-length : tie.Need-same-length
 same-length c = search needs
 
 returns : tie.Need-returns
-returns c = let begin = c .before .before .before .before .before .before .before .before .before .before .before .before .before .args in
+returns c =
+    let e = c .before .before .before .before .before .before .before .before in
+    let a = e .before .before .before .before .before .args in
     rw (c .before .reason-number .ensures)
-    (ran-emulated (now (begin .memory)) (now (begin .registers)) _ (c .before .before .before .before .before .before .before .before .before .loaded .result) (begin .budget) (c .before .before .before .before .before .before .before .before .emulate .result) (c .before .before .before .before .before .before .before .before .before .loaded .ensures) (c .before .before .before .before .before .before .before .before .emulate .ensures) _ _ _ (c .before .before .before .before .m .given .1))
+    (ran-emulated (now (a .memory)) (now (a .registers)) _ _ (a .budget) _ (e .before .loaded .ensures) (e .emulate .ensures) _ _ _ (c .before .before .before .before .m .given .1))
 
 same-length-2 : tie.Need-same-length-2
 same-length-2 c = search needs
 
 returns-2 : tie.Need-returns-2
-returns-2 c = let begin = c .before .before .before .before .before .before .before .before .before .before .before .before .before .args in
+returns-2 c =
+    let e = c .before .before .before .before .before .before .before .before in
+    let a = e .before .before .before .before .before .args in
     rw (c .before .before .refusal-number .ensures, c .before .refusal-place .ensures)
-    (refused-emulated (now (begin .memory)) (now (begin .registers)) _ (c .before .before .before .before .before .before .before .before .before .loaded .result) (begin .budget) (c .before .before .before .before .before .before .before .before .emulate .result) (c .before .before .before .before .before .before .before .before .before .loaded .ensures) (c .before .before .before .before .before .before .before .before .emulate .ensures) _ (c .before .before .before .before .why .given .1))
+    (refused-emulated (now (a .memory)) (now (a .registers)) _ _ (a .budget) _ (e .before .loaded .ensures) (e .emulate .ensures) _ (c .before .before .before .before .why .given .1))
 
 pub guavachisel-emulate-spec : {M : Type 1} → statement M
 guavachisel-emulate-spec =

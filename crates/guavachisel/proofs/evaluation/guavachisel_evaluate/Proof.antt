@@ -18,8 +18,9 @@ same-length-2 c = search needs
 
 returns : tie.Need-returns
 returns c =
-    let a = c .before .before .before .before .before .before .before .before .before .before .before .before .before .before .args in
-    evaluated (a .text .now) (a .registers .now) (a .memory .now) (a .budget) (a .rows .now) _ _ _ _ (c .before .before .before .before .before .before .before .evaluate .result .outcome) (c .before .before .before .before .before .before .before .evaluate .ensures) (c .outcome-numbers .ensures)
+    let e = c .before .before .before .before .before .before .before in
+    let a = e .before .before .before .before .before .before .before .args in
+    evaluated (a .text .now) (a .registers .now) (a .memory .now) (a .budget) (a .rows .now) _ _ _ _ (e .evaluate .result .outcome) (e .evaluate .ensures) (c .outcome-numbers .ensures)
 
 pub guavachisel-evaluate-spec : {M : Type 1} → statement M
 guavachisel-evaluate-spec = tie.close (tie.spec evaluate-requires outcome-numbers-requires same-length same-length-2 returns)

@@ -38,4 +38,16 @@ returns-3 c =
     refused _ _ _ _ (c .before .before .before .end3 .given .1) (c .before .refusal-number .ensures) (c .refusal-place .ensures)
 
 pub outcome-numbers-spec : {M : Type 1} → statement M
-outcome-numbers-spec = tie.close (tie.spec enum-known-end reason-number-requires enum-known-end-2 fault-number-requires enum-known-end-3 refusal-number-requires refusal-place-requires returns returns-2 returns-3)
+outcome-numbers-spec =
+    tie.close
+    (tie.spec
+    enum-known-end
+    reason-number-requires
+    enum-known-end-2
+    fault-number-requires
+    enum-known-end-3
+    refusal-number-requires
+    refusal-place-requires
+    returns
+    returns-2
+    returns-3)

@@ -1,9 +1,9 @@
--- `reading::fault_number` answers by the case that its definition goes by.
+-- `numbers::fault_number` answers by the case that its definition goes by.
 use mathlib.Core.Path.{sym, ap}
 use Rattle.declaration.specs.Faults.{numberOf}
 use borrow.Author.Needs.{needs}
-use Rattle.guavachisel.proofs.reading.fault_number.Statement.{statement}
-use Rattle.guavachisel.proofs.reading.fault_number.Tie as tie
+use Rattle.guavachisel.proofs.numbers.fault_number.Statement.{statement}
+use Rattle.guavachisel.proofs.numbers.fault_number.Tie as tie
 
 enum-told : tie.Need-enum-told
 enum-told c = search needs
@@ -62,4 +62,22 @@ returns-8 c =
     sym (ap numberOf (c .enum-told8 .given .1))
 
 pub fault-number-spec : {M : Type 1} → statement M
-fault-number-spec = tie.close (tie.spec enum-told enum-told-2 enum-told-3 enum-told-4 enum-told-5 enum-told-6 enum-told-7 enum-told-8 returns returns-2 returns-3 returns-4 returns-5 returns-6 returns-7 returns-8)
+fault-number-spec =
+    tie.close
+    (tie.spec
+    enum-told
+    enum-told-2
+    enum-told-3
+    enum-told-4
+    enum-told-5
+    enum-told-6
+    enum-told-7
+    enum-told-8
+    returns
+    returns-2
+    returns-3
+    returns-4
+    returns-5
+    returns-6
+    returns-7
+    returns-8)

@@ -60,7 +60,8 @@ unfit-ext f g e at (x ∷ xs) =
     ap (λ (w : ℕ). elim (fits w x) [ true ↦ firstUnfit f (suc at) xs | false ↦ at ]) (e at)
     ∙ ap (λ (n : ℕ). elim (fits (g at) x) [ true ↦ n | false ↦ at ]) (unfit-ext f g e (suc at) xs)
 
-state-ext : (v w : List ℕ) → ((k : ℕ) → getD v k 0 ≡ getD w k 0) → (values memory : List ℕ) (budget : ℕ) → checkState v values memory budget ≡ checkState w values memory budget
+state-ext : (v w : List ℕ) → ((k : ℕ) → getD v k 0 ≡ getD w k 0) → (values memory : List ℕ) (budget : ℕ)
+    → checkState v values memory budget ≡ checkState w values memory budget
 state-ext v w e values memory budget =
     ap (λ (n : ℕ). orElse (checkMemory memory) (orElse (pick (ltb n (length values)) (Unfit (Register n)) Fit) (checkBudget budget)))
     (unfit-ext (λ k. getD v k 0) (λ k. getD w k 0) e 0 values)
@@ -113,8 +114,9 @@ module _ (text : List ℕ) (r : reader.Answer) {code₀ code table₀ table : Li
     -- RUN's place
     run-below : find runName (described .registers) < registerPlaces
     run-below =
-        let place = find runName (described .registers) in
-        let h = ltb-true place (length (described .registers)) (and-left (ltb place (length (described .registers))) (eqb (widthIn (described .registers) place) 1) (formed .has-run)) in
+        let rs = described .registers in
+        let place = find runName rs in
+        let h = ltb-true place (length rs) (and-left (ltb place (length rs)) (eqb (widthIn rs place) 1) (formed .has-run)) in
         omega (arith, h, formed .few-registers)
 
     run-read : (place : ℕ) → place ≡ find runName (described .registers) → (s : State) → runAt place s ≡ running described s
@@ -127,7 +129,9 @@ module _ (text : List ℕ) (r : reader.Answer) {code₀ code table₀ table : Li
       start = record { registers = registers; memory = memory }
 
       checked : found ≡ check described registers memory budget list
-      checked = found-is ∙ ap (λ (v : Verdict). orElse v (checkRowList (length list))) (state-ext (padded (r .registers)) (widthsOf described) same-width registers memory budget)
+      checked =
+          found-is
+          ∙ ap (λ (v : Verdict). orElse v (checkRowList (length list))) (state-ext (padded (r .registers)) (widthsOf described) same-width registers memory budget)
 
       abbrev by-verdict : Verdict → Report
       by-verdict Fit = finished (run described budget start) list
@@ -137,7 +141,8 @@ module _ (text : List ℕ) (r : reader.Answer) {code₀ code table₀ table : Li
       unfolding evaluate evaluateOf
       evaluated e = ap (λ a. evaluateOf a registers memory budget list) (read-is told) ∙ ap by-verdict (sym checked ∙ e)
 
-      pub state-refused : (why : Refusal) → found ≡ Unfit why → evaluate text registers memory budget list ≡ refused (state.numberOf why) (state.placeOf why) registers memory list
+      pub state-refused : (why : Refusal) → found ≡ Unfit why
+          → evaluate text registers memory budget list ≡ refused (state.numberOf why) (state.placeOf why) registers memory list
       state-refused why e = evaluated e
 
       -- a state that passes the checks

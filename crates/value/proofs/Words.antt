@@ -1,4 +1,4 @@
--- The words one by one.
+-- The words one by one, as the code takes them: how many values a word takes, and the stack after it.
 -- Assumes nothing.
 use mathlib.Core.Path.{_≡_, refl, ap, _∙_}
 use mathlib.Core.Bool.{Bool, true, false}

@@ -36,7 +36,8 @@ run-rows-requires c κs =
     let v = c .before .before .before .before .before .before .before .before in
     let r = v .before .before .before .before .before in
     let a = r .before .before .before .before .before .before .args in
-    run-ready _ _ (r .read .ensures) (v .before .before .before .enum-told .given .1) _ (a .memory .now) (a .budget) (a .rows .now) (v .check .ensures)
+    let told = v .before .before .before .enum-told .given .1 in
+    run-ready _ _ (r .read .ensures) told _ (a .memory .now) (a .budget) (a .rows .now) (v .check .ensures)
     (c .before .before .before .before .before .before .enum-told2 .given .1)
 
 returns : tie.Need-returns
@@ -53,8 +54,8 @@ returns-2 c =
     let v = c .before .before .before in
     let r = v .before .before .before .before .before in
     let a = r .before .before .before .before .before .before .args in
-    sym (state-refused _ _ (r .read .ensures) (v .before .before .before .enum-told .given .1) (a .registers .values) (a .memory .now) (a .budget) (a .rows .now) (v .check .ensures) _
-    (c .before .why .given .1))
+    let told = v .before .before .before .enum-told .given .1 in
+    sym (state-refused _ _ (r .read .ensures) told (a .registers .values) (a .memory .now) (a .budget) (a .rows .now) (v .check .ensures) _ (c .before .why .given .1))
 
 same-length-2 : tie.Need-same-length-2
 same-length-2 c = search needs
@@ -69,8 +70,9 @@ returns-3 c =
     let r = v .before .before .before .before .before in
     let b = r .before .before .before .before .before .before in
     let a = b .args in
+    let told = v .before .before .before .enum-told .given .1 in
     c .before .before .before .before .run-rows .ensures
-    ∙ run-told _ _ (r .read .ensures) (v .before .before .before .enum-told .given .1) (a .registers .values) (a .memory .now) (a .budget) (a .rows .now) (v .check .ensures)
+    ∙ run-told _ _ (r .read .ensures) told (a .registers .values) (a .memory .now) (a .budget) (a .rows .now) (v .check .ensures)
     (p .before .before .enum-told2 .given .1) (let g = b .good .1 .1 .0 in search needs) refl refl _ (p .place-of .ensures)
 
 pub evaluate-spec : {M : Type 1} → statement M

@@ -15,9 +15,10 @@ shl-result c = search needs
 
 returns : tie.Need-returns
 returns c =
+    let places = c .args .n % 32 in
     let narrow : c .args .x < 2 ^ 16 = search needs in
-    let is = shl-exact 16 (c .args .n % 32) 64 narrow (omega arith) in
-    let small : c .args .x * 2 ^ (c .args .n % 32) < 2 ^ 47 = lt-of-lt-of-le (shl-lt 16 (c .args .n % 32) narrow) (pow-mono {i = 16 + c .args .n % 32} {j = 47} (omega arith)) in
+    let is = shl-exact 16 places 64 narrow (omega arith) in
+    let small : c .args .x * 2 ^ places < 2 ^ 47 = lt-of-lt-of-le (shl-lt 16 places narrow) (pow-mono {i = 16 + places} {j = 47} (omega arith)) in
     (is, rw is small)
 
 pub shifted-spec : {M : Type 1} → statement M

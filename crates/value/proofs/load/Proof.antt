@@ -47,9 +47,15 @@ cast-result-2 c =
 returns-3 : tie.Need-returns-3
 unfolding loaded
 returns-3 c =
-    let b = c .before .before .before .before in
-    let kind = b .before .args .kind in
-    rw (ne-eqb kind 2 (b .if1 .left), ne-eqb kind 0 (c .before .before .if2 .left), narrow-is (search needs) (c .before .before .before .register-value .ensures), c .before .power-of .ensures .is, c .power-of2 .ensures .is)
+    let r = c .before .before .before in
+    let kind = r .before .before .args .kind in
+    rw (
+      ne-eqb kind 2 (r .before .if1 .left),
+      ne-eqb kind 0 (c .before .before .if2 .left),
+      narrow-is (search needs) (r .register-value .ensures),
+      c .before .power-of .ensures .is,
+      c .power-of2 .ensures .is,
+    )
 
 pub load-spec : {M : Type 1} → statement M
 load-spec =

@@ -13,7 +13,8 @@ use Rattle.value.proofs.value_of.Tie as tie
 abbrev Inv-loop : tie.InvT-loop
 Inv-loop code from n r memory stack₀ depth₀ at₀ left₀ stack depth at left =
     (at + 4 * left ≤ codePlaces) × (depth ≤ stackPlaces)
-    × (executed (record { registers = r; memory = memory }) code from n empty ≡ executed (record { registers = r; memory = memory }) code at left (record { places = stack; depth = depth }))
+    × (executed (record { registers = r; memory = memory }) code from n empty
+    ≡ executed (record { registers = r; memory = memory }) code at left (record { places = stack; depth = depth }))
 
 abbrev μ-loop : tie.MeasureT-loop
 μ-loop code from n r memory stack₀ depth₀ at₀ left₀ stack depth at left =

@@ -43,7 +43,8 @@ loop-again c =
     let r = c .before .before .before in
     let v = r .before .before .before .before in
     let b = v .before .before in
-    going-next _ _ _ _ _ _ _ _ _ _ (b .before .loop .inv) (v .value-at .result) _ _ _ _ (b .loop-test .taken) (v .value-at .ensures) (r .before .before .before .if1 .left) (r .cycle .ensures)
+    going-next _ _ _ _ _ _ _ _ _ _ (b .before .loop .inv) (v .value-at .result) _ _ _ _ (b .loop-test .taken)
+    (v .value-at .ensures) (r .before .before .before .if1 .left) (r .cycle .ensures)
 
 value-at-requires-2 : tie.Need-value-at-requires-2 Inv-loop μ-loop
 value-at-requires-2 c κs = search needs

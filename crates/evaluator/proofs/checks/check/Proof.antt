@@ -35,14 +35,16 @@ returns c =
     let w = v .before .before .before .before in
     let a = w .before .before .args in
     c .check-row-list .ensures
-    ∙ sym (padded-check (a .d) (a .r .values) (a .memory .now) (a .budget) (checkRowList (a .places)) (w .widths-of .ensures) (v .check-state .ensures) (c .before .enum-told .given .1))
+    ∙ sym (padded-check (a .d) (a .r .values) (a .memory .now) (a .budget) (checkRowList (a .places))
+    (w .widths-of .ensures) (v .check-state .ensures) (c .before .enum-told .given .1))
 
 returns-2 : tie.Need-returns-2
 returns-2 c =
     let v = c .before .before .before in
     let w = v .before .before .before .before in
     let a = w .before .before .args in
-    sym (padded-check (a .d) (a .r .values) (a .memory .now) (a .budget) (checkRowList (a .places)) (w .widths-of .ensures) (v .check-state .ensures) (c .before .why .given .1))
+    sym (padded-check (a .d) (a .r .values) (a .memory .now) (a .budget) (checkRowList (a .places))
+    (w .widths-of .ensures) (v .check-state .ensures) (c .before .why .given .1))
 
 pub check-spec : {M : Type 1} → statement M
 check-spec =

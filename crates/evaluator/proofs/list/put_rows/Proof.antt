@@ -11,6 +11,7 @@ use borrow.Author.Needs.{needs}
 use Rattle.evaluator.proofs.list.put_rows.Statement.{statement}
 use Rattle.evaluator.proofs.list.put_rows.Tie as tie
 
+-- the first i entries of s at the front of d, and one more
 one-more : (d s l : List ℕ) (i : ℕ) → i < length d → i < length s → l ≡ paste d 0 s i → set l i (getD s i 0) ≡ paste d 0 s (i + 1)
 one-more d s l i h k e =
     ap (λ (x : List ℕ). set x i (getD s i 0)) e
@@ -18,6 +19,7 @@ one-more d s l i h k e =
     ∙ paste-suc d 0 s i 0 (omega (arith, h)) k
     ∙ ap (paste d 0 s) (sym (add-one i))
 
+-- n of them
 copied : (d s l : List ℕ) (i n : ℕ) → i ≡ n → l ≡ paste d 0 s i → l ≡ take n s ++ drop n d
 copied d s l i n e f = f ∙ ap (paste d 0 s) e ∙ ap (λ (k : ℕ). take n s ++ drop k d) (zero-add n)
 
@@ -51,11 +53,13 @@ loop-less c =
 
 loop-again : tie.Need-loop-again Inv-loop μ-loop
 loop-again c =
+    let test = c .before .loop-test .taken in
     let l = c .before .before .loop in
-    let a = c .before .before .before .args in (
-      omega (arith, c .before .loop-test .taken),
+    let b = c .before .before .before in
+    let a = b .args in (
+      omega (arith, test),
       length-set (l .rows) (l .i) _ ∙ l .inv .1,
-      one-more (a .rows .now) (a .list .now) (l .rows) (l .i) (omega (arith, c .before .loop-test .taken, c .before .before .before .pre .1 .0)) (omega (arith, c .before .loop-test .taken, c .before .before .before .pre .0, c .before .before .before .pre .1 .1)) (l .inv .2),
+      one-more (a .rows .now) (a .list .now) (l .rows) (l .i) (omega (arith, test, b .pre .1 .0)) (omega (arith, test, b .pre .0, b .pre .1 .1)) (l .inv .2),
     )
 
 same-length : tie.Need-same-length Inv-loop μ-loop
@@ -64,7 +68,9 @@ same-length c =
 
 returns : tie.Need-returns Inv-loop μ-loop
 returns c =
-    copied (c .before .before .args .rows .now) (c .before .before .args .list .now) (c .before .loop .rows) (c .before .loop .i) (c .before .before .args .n) (omega (arith, c .before .loop .inv .0, c .loop-test .left)) (c .before .loop .inv .2)
+    let l = c .before .loop in
+    let a = c .before .before .args in
+    copied (a .rows .now) (a .list .now) (l .rows) (l .i) (a .n) (omega (arith, l .inv .0, c .loop-test .left)) (l .inv .2)
 
 pub put-rows-spec : {M : Type 1} → statement M
 put-rows-spec =

@@ -19,19 +19,20 @@ use Rattle.constants.specs.declared.Number.the-variants.{Plain, Unread}
 use Rattle.constants.specs.declared.Constant.{Constant}
 use Rattle.constants.specs.declared.Constant.the-variants.{Found, Missing}
 use Rattle.characters.proofs.Runs.{onward, within, run-onward}
-use Rattle.characters.proofs.Cases.{by-case}
-use Rattle.characters.proofs.Tests.{by-test, and-left, and-right}
+use Rattle.laws.proofs.Joined.{and-left, and-right}
+use Rattle.laws.proofs.Tests.{by-test, by-case}
 use Rattle.constants.proofs.Digits.{digits-between}
 use Rattle.bit_parts.specs.declared.Span.{Span}
 use Rattle.bit_parts.specs.declared.Span.the-variants.{Bits, Bad}
 use Rattle.bit_parts.specs.declared.Reference.{Reference}
 use Rattle.bit_parts.specs.declared.Reference.the-variants.{Whole, Part, Unknown}
-use Rattle.operators.specs.declared.Entry.{Entry}
-use Rattle.operators.specs.Operators.{table, noEntry, entryIn}
+use Rattle.operators.specs.Operators.{table, entryIn}
+use Rattle.operators.proofs.Rows.{row-small}
 use Rattle.operator_names.specs.OperatorNames.{operatorNames, findIn, operatorRow}
 use Rattle.tokens.specs.Tokens.{skip, next, slice, tokenEnd, operatorAt, operatorEnd}
 use Rattle.bit_parts.specs.References.{secondBit, firstBit, spanAt, partOf, widthIn, registerAt, referenceAt}
-use Rattle.tokens.proofs.Tokens.{present, token-inside}
+use Rattle.laws.proofs.Lists.{present}
+use Rattle.tokens.proofs.Tokens.{token-inside}
 
 -- after `at`, and within the field
 abbrev pub Past : List ℕ → ℕ → ℕ → Type 0
@@ -197,13 +198,7 @@ module _ (rs : List Named) (s : List ℕ) (at : ℕ) where
   pub bits-known : (r w a b p : ℕ) → referenceAt rs s at ≡ Part r w a b p → (r < length rs) × (w ≡ widthIn rs r) × (a ≤ b) × (b < w)
   bits-known r w a b p e = subst (Known rs) e reference-known
 
--- an operator that has a strength stands in the table, and its token ends past its start
-row-small : (row k : ℕ) → entryIn row .strength ≡ k → 0 < k → row < length table
-row-small row k e h =
-    by-test (ltb row (length table))
-    (λ t. ltb-true row (length table) t)
-    (λ t. absurd (omega (arith, ap (λ (x : Entry). x .strength) (List·getD-eq-default table noEntry (ltb-false row (length table) t)))))
-
+-- an operator stands in the table, and its token ends past its start
 no-operator : (s : List ℕ) (at : ℕ) → length s ≤ skip s at → operatorAt s at ≡ length operatorNames
 unfolding operatorAt operatorRow findIn same
 no-operator s at h = rw (drop-of-length-le s h, take-nil (tokenEnd s (skip s at) - skip s at))

@@ -1,4 +1,2 @@
 pub mod Runs
 pub mod Strings
-pub mod Tests
-pub mod Cases

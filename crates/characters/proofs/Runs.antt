@@ -12,7 +12,7 @@ use borrow.Author.Tests.{ltb-true, ltb-false}
 use lib.ListN.{length, getD, drop, length-drop, drop-of-length-le}
 use lib.Seq.{drop-cons}
 use Rattle.characters.specs.Characters.{belongs, run, runEnd}
-use Rattle.characters.proofs.Tests.{by-test}
+use Rattle.laws.proofs.Tests.{by-test}
 use Rattle.characters.specs.declared.Class.{Class}
 
 -- a run of one byte more, and none

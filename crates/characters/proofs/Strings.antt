@@ -11,7 +11,7 @@ use borrow.Author.Tests.{eqb-true}
 use lib.ListN.{length, getD, take, drop, drop-of-length-le}
 use lib.Seq.{drop-cons, take-nil, take-take}
 use Rattle.characters.specs.Characters.{same}
-use Rattle.characters.proofs.Tests.{and-left, and-right}
+use Rattle.laws.proofs.Joined.{and-left, and-right}
 
 -- strings of unequal lengths
 pub unequal : (a b : List ℕ) → (length a ≡ length b → ⊥) → same a b ≡ false

@@ -2,7 +2,7 @@
 -- Assumes nothing.
 use mathlib.Core.Path.{_≡_, refl, sym, ap, subst, _∙_}
 use mathlib.Core.List.{List, _++_, append-assoc}
-use Prim.Native.Nat.{ℕ, zero, suc, _+_, _*_, _≤_, _<_}
+use Prim.Native.Nat.{ℕ, _+_, _*_, _≤_, _<_}
 use native.Mathlib.Omega.{arith}
 use lib.ListN.{length, length-append}
 use lib.Seq.{sets}
@@ -11,12 +11,11 @@ use Rattle.word.specs.Word.{widest}
 use Rattle.code.specs.declared.Cursor.{Cursor}
 use Rattle.code.specs.declared.Part.{Part}
 use Rattle.code.specs.declared.Part.the-variants.{Found, Fault}
-use Rattle.operators.specs.Operators.{table, rowOf, entryIn}
 use Rattle.code.specs.Tree.{Expr, width, pieces}
 use Rattle.code.specs.Readings.{Reading, read, outside, limited}
 use Rattle.code.specs.Code.{codeOf}
 use Rattle.code.specs.Met.{Held, Meets, Leaf, Single}
-use Rattle.code.proofs.Stores.{sets-behind}
+use Rattle.laws.proofs.Lists.{sets-behind}
 
 -- a reading that is known
 pub met : (x y : Reading) (r : Part) (from : Cursor) (before after : List ℕ) → x ≡ y → Meets y r from before after → Meets x r from before after
@@ -69,20 +68,6 @@ over-both l r u p q word x left w right v from before mid now four e m hl hr =
           ∙ sets-behind before (4 * from .words) (4 * left .words) (codeOf l) (codeOf r ++ word) (hl .words-are)
           ∙ ap (sets before (4 * from .words)) (sym (append-assoc (codeOf l) (codeOf r) word) ∙ sym e);
     }
-
--- a row's operator stands in that row
-pub row-is : (row : ℕ) → row < length table → rowOf (entryIn row .operator) ≡ row
-row-is zero h = refl
-row-is (suc zero) h = refl
-row-is (suc (suc zero)) h = refl
-row-is (suc (suc (suc zero))) h = refl
-row-is (suc (suc (suc (suc zero)))) h = refl
-row-is (suc (suc (suc (suc (suc zero))))) h = refl
-row-is (suc (suc (suc (suc (suc (suc zero)))))) h = refl
-row-is (suc (suc (suc (suc (suc (suc (suc zero))))))) h = refl
-row-is (suc (suc (suc (suc (suc (suc (suc (suc zero)))))))) h = refl
-row-is (suc (suc (suc (suc (suc (suc (suc (suc (suc zero))))))))) h = refl
-row-is (suc (suc (suc (suc (suc (suc (suc (suc (suc (suc n)))))))))) h = absurd (omega arith)
 
 -- a tree of one word that is narrow enough, one that isn't, and none
 module _ (from : Cursor) (before : List ℕ) (p w : ℕ) where

@@ -21,7 +21,8 @@ use Rattle.characters.specs.declared.Class.the-variants.{Binary, Octal}
 use Rattle.constants.specs.declared.Number.the-variants.{Unread}
 use Rattle.constants.specs.declared.Constant.the-variants.{Missing}
 use Rattle.characters.proofs.Runs.{first-of, onward}
-use Rattle.characters.proofs.Tests.{and-left, and-right, by-test}
+use Rattle.laws.proofs.Joined.{and-left, and-right}
+use Rattle.laws.proofs.Tests.{by-test}
 
 -- a digit put behind a number of k bits, in a base up to 10
 pub grows : (k v base d : ℕ) → v < 2 ^ k → base ≤ 10 → d < 16 → v * base + d < 2 ^ (k + 4)

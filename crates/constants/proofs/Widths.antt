@@ -18,7 +18,7 @@ use Rattle.characters.specs.declared.Class.the-variants.{Word, Binary, Octal, D
 use Rattle.constants.specs.declared.Number.{Number}
 use Rattle.constants.specs.declared.Constant.{Constant}
 use Rattle.constants.specs.declared.Constant.the-variants.{Found, Missing}
-use Rattle.characters.proofs.Cases.{by-case}
+use Rattle.laws.proofs.Tests.{by-case}
 use Rattle.constants.proofs.Digits.{digits-between, value-lt, binary-small, octal-small}
 
 -- a constant of at least one bit, whose value fits

@@ -12,7 +12,7 @@ use Rattle.fields.specs.Fields.{field, hasFields}
 use Rattle.names.specs.Names.{Named, entries, Added}
 use Rattle.constants.specs.Constants.{decimalAt}
 use Rattle.names.specs.declared.Dictionary.{Dictionary}
-use Rattle.bit_parts.proofs.Listed.{entries-length}
+use Rattle.names.proofs.Entries.{entries-length}
 use Rattle.declaration.specs.declared.faults.Fault.{Fault}
 use Rattle.declaration.specs.declared.faults.Fault.the-variants.{Line, Register, Label, Limit}
 use Rattle.declaration.specs.declared.lines.Progress as code

@@ -15,7 +15,8 @@ use Rattle.characters.specs.declared.Class.the-variants.{Other}
 use Rattle.characters.proofs.Runs.{run-le}
 use Rattle.fields.proofs.Lines.{before-length, few-fields, next-field, first-field}
 use Rattle.characters.proofs.Strings.{equal, inner}
-use Rattle.characters.proofs.Tests.{by-test, and-right}
+use Rattle.laws.proofs.Joined.{and-right}
+use Rattle.laws.proofs.Tests.{by-test}
 
 -- a line of several fields has a TAB
 has-tab : (n : ℕ) (s : List ℕ) → 1 < n → hasFields n s ≡ true → until tab s < length s

@@ -13,9 +13,9 @@ use Rattle.characters.specs.Characters.{same}
 use Rattle.fields.specs.Fields.{Line, lineFeed, until, before, after, lines, field, hasFields}
 use Rattle.names.specs.Names.{Named, isName}
 use Rattle.constants.specs.Constants.{decimalAt}
-use Rattle.characters.proofs.Cases.{by-case}
+use Rattle.laws.proofs.Tests.{by-case}
 use Rattle.characters.proofs.Strings.{equal}
-use Rattle.characters.proofs.Tests.{and-left, and-right}
+use Rattle.laws.proofs.Joined.{and-left, and-right}
 use Rattle.code.specs.Readings.{Reading, read, outside}
 use Rattle.code.specs.Tree.{Destination}
 use Rattle.expression.specs.Expression.{expression, destination}

@@ -14,10 +14,11 @@ use Rattle.fields.specs.Fields as fields
 use Rattle.fields.specs.Fields.{lineFeed, until, before, after, lines, firstLine}
 use Rattle.names.specs.Names.{entriesFrom, entries, find, none}
 use Rattle.names.specs.declared.Dictionary.{Dictionary}
-use Rattle.characters.proofs.Tests.{by-test}
+use Rattle.laws.proofs.Tests.{by-test}
 use Rattle.fields.proofs.Lines.{first-line, no-line}
 use Rattle.bit_parts.specs.References.{widthIn}
-use Rattle.bit_parts.proofs.Listed.{entries-length, width-is}
+use Rattle.names.proofs.Entries.{entries-length}
+use Rattle.bit_parts.proofs.Listed.{width-is}
 use Rattle.declaration.specs.declared.faults.Fault.{Fault}
 use Rattle.declaration.specs.declared.faults.Fault.the-variants.{Size, Header, Line, Label, Run}
 use Rattle.declaration.specs.declared.lines.Progress as code

@@ -16,8 +16,8 @@ use Rattle.constants.specs.Constants.{numberAt}
 use Rattle.fields.specs.Fields.{field, hasFields}
 use Rattle.names.specs.Names.{find}
 use Rattle.characters.specs.declared.Class.the-variants.{Octal, Decimal}
-use Rattle.characters.proofs.Cases.{by-case}
-use Rattle.characters.proofs.Tests.{and-left, and-right}
+use Rattle.laws.proofs.Tests.{by-case}
+use Rattle.laws.proofs.Joined.{and-left, and-right}
 use Rattle.entry.specs.Lines.{machineRegisters, digitsOf, isDigits, budgetDigits, wordEntry, registerEntry, budgetEntry, said, entry}
 use Rattle.entry.specs.declared.Entry.{Entry}
 use Rattle.entry.specs.declared.Entry.the-variants.{Word, Register, Budget, Unfit}

@@ -14,7 +14,7 @@ use Rattle.constants.specs.Constants.{numberAt}
 use Rattle.characters.specs.declared.Class.{Class}
 use Rattle.characters.specs.declared.Class.the-variants.{Octal}
 use Rattle.constants.proofs.Digits.{value-lt, octal-small}
-use Rattle.characters.proofs.Tests.{and-left, and-right}
+use Rattle.laws.proofs.Joined.{and-left, and-right}
 use Rattle.entry.specs.Lines.{isDigits}
 
 module _ (k : Class) (n : ℕ) (field : List ℕ) (t : isDigits k n field ≡ true) where

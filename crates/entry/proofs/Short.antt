@@ -17,7 +17,8 @@ use Rattle.names.specs.Names.{Named, find}
 use Rattle.characters.specs.declared.Class.the-variants.{Octal}
 use Rattle.fields.proofs.Lines.{before-length}
 use Rattle.characters.proofs.Strings.{equal}
-use Rattle.characters.proofs.Tests.{and-left, and-right, by-test}
+use Rattle.laws.proofs.Joined.{and-left, and-right}
+use Rattle.laws.proofs.Tests.{by-test}
 use Rattle.entry.specs.Lines.{machineRegisters, digitsOf, entry, isUnfit, lineBytes}
 use Rattle.entry.specs.declared.Entry.{Entry}
 use Rattle.entry.specs.declared.Entry.the-variants.{Word, Register, Budget, Unfit}

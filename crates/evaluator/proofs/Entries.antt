@@ -11,21 +11,24 @@ use lib.ListN.{length, getD, take, drop, List·getD-eq-default}
 use borrow.Author.Tests.{ltb-true, ltb-false}
 use Rattle.word.specs.Choice.{pick}
 use Rattle.word.specs.Word.{widest, fits}
-use Rattle.state.specs.Limits.{memoryWords}
+use Rattle.state.specs.Limits.{memoryWords, budgetLimit}
+use Rattle.state.specs.Acceptable.{Acceptable, Fitting}
 use Rattle.state.specs.Refusals.{orElse}
 use Rattle.state.specs.Refusals as state
-use Rattle.state.specs.Checks.{firstUnfit, checkMemory, checkRegisters, checkBudget, checkState, checkRowList}
+use Rattle.state.specs.Checks.{firstUnfit, checkMemory, checkBudget, checkState, checkRowList}
 use Rattle.state.specs.declared.Reason.{Reason}
 use Rattle.state.specs.declared.Refusal.{Refusal}
 use Rattle.state.specs.declared.Refusal.the-variants.{Register}
 use Rattle.state.specs.declared.Verdict.{Verdict}
 use Rattle.state.specs.declared.Verdict.the-variants.{Fit, Unfit}
-use Rattle.state.proofs.Accepted.{memory-acceptable, registers-fitting, row-list-long, both-fit}
+use Rattle.state.proofs.Accepted.{row-list-long, both-fit, state-sound}
 use Rattle.text_limits.specs.Limits.{mostRows}
 use Rattle.names.specs.Names.{Named, entries, find}
-use Rattle.characters.proofs.Tests.{by-test, and-left}
+use Rattle.laws.proofs.Joined.{and-left}
+use Rattle.laws.proofs.Tests.{by-test}
 use Rattle.bit_parts.specs.References.{widthIn}
-use Rattle.bit_parts.proofs.Listed.{entries-length, width-is}
+use Rattle.names.proofs.Entries.{entries-length}
+use Rattle.bit_parts.proofs.Listed.{width-is}
 use Rattle.code.proofs.Formed.{register-width}
 use Rattle.declaration.specs.Rows.{Description}
 use Rattle.declaration.specs.Faults.{numberOf}
@@ -150,18 +153,17 @@ module _ (text : List ℕ) (r : reader.Answer) {code₀ code table₀ table : Li
         outer : (checkState (widthsOf described) registers memory budget ≡ Fit) × (checkRowList (length list) ≡ Fit)
         outer = both-fit (checkState (widthsOf described) registers memory budget) (checkRowList (length list)) (sym checked ∙ e)
 
-        first : (checkMemory memory ≡ Fit) × (orElse (checkRegisters (widthsOf described) registers) (checkBudget budget) ≡ Fit)
-        first = both-fit (checkMemory memory) (orElse (checkRegisters (widthsOf described) registers) (checkBudget budget)) (outer .0)
+        sound : Acceptable memory × Fitting (widthsOf described) registers × (budget ≤ budgetLimit)
+        sound = state-sound (widthsOf described) registers memory budget (outer .0)
 
         -- the rows are within their limit, memory has its words, and the caller's list has room
         pub run-ready : (r .rows ≤ mostRows) × ((length memory ≡ memoryWords) × (mostRows ≤ length list))
         run-ready =
-            (omega (arith, answers .rows-are told, formed .few-rows), (memory-acceptable memory (first .0) .size, row-list-long (length list) (outer .1)))
+            (omega (arith, answers .rows-are told, formed .few-rows), (sound .0 .size, row-list-long (length list) (outer .1)))
 
         fits-registers : length registers ≡ registerPlaces → fitting.Fit (described .registers) start
         fits-registers places =
-            let second = both-fit (checkRegisters (widthsOf described) registers) (checkBudget budget) (first .1) in
-            record { places = places; values = registers-fitting (widthsOf described) registers (second .0); words = memory-acceptable memory (first .0) }
+            record { places = places; values = sound .1; words = sound .0 }
 
         pub run-told : length registers ≡ registerPlaces → length code₀ ≡ codePlaces → length table₀ ≡ rowCells * mostRows
             → (place : ℕ) → place ≡ find runName (described .registers)

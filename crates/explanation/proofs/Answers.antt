@@ -53,7 +53,7 @@ module _ (m : Machine) (memory : List ℕ) (budget : ℕ) (list : List ℕ) (roo
   -- a state that the check finds fit is a start of the claim, with 0 in the working registers
   claim-of : checkState widths (values m) memory budget ≡ Fit → Claim m (placesOf m) memory budget list
   claim-of e =
-      let within = state-sound widths (values m) memory budget e .1 .1 in
+      let within = state-sound widths (values m) memory budget e .2 in
       runs-agree m (placesOf m) memory budget list
       (every-start m memory 0 0 0 0 budget list (checked-good m memory budget e) (lit< tt) (lit< tt) (lit< tt) (lit< tt) within room)
 

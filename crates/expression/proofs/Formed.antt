@@ -6,7 +6,7 @@ use mathlib.Core.List.{List}
 use Prim.Native.Nat.{ℕ, zero, suc, _+_, _≤_, _<_}
 use native.Mathlib.Omega.{arith}
 use lib.Dec.{eqb, leb, ltb}
-use lib.ListN.{length, List·getD-eq-default}
+use lib.ListN.{length}
 use borrow.Author.Tests.{ltb-true, ltb-false, leb-true, eqb-true, ne-eqb}
 use Rattle.word.specs.Word.{widest}
 use Rattle.characters.specs.Characters.{isLetter, runEnd, same}
@@ -17,8 +17,8 @@ use Rattle.constants.specs.declared.Number.{Number}
 use Rattle.constants.specs.declared.Number.the-variants.{Plain, Unread}
 use Rattle.constants.specs.declared.Constant.{Constant}
 use Rattle.constants.specs.declared.Constant.the-variants.{Found, Missing}
-use Rattle.characters.proofs.Cases.{by-case}
-use Rattle.characters.proofs.Tests.{by-test, and-right}
+use Rattle.laws.proofs.Joined.{and-right}
+use Rattle.laws.proofs.Tests.{by-test, by-case}
 use Rattle.constants.proofs.Widths.{Fitting, constant-fits}
 use Rattle.operators.specs.declared.Entry.{Entry}
 use Rattle.bit_parts.specs.declared.Reference.{Reference}
@@ -32,7 +32,7 @@ use Rattle.code.specs.Readings.{Reading, read, outside, limited, ofReference, o
 use Rattle.grammar.specs.Grammar.{roundOpen, roundClose, squareOpen, squareClose, notToken, memoryToken, deepest, level, more, operation, operand, worded, negated, enclosed, fuel}
 use Rattle.expression.specs.Expression.{trimmed, whole, expression, ofName, ofAddress, memoryAt, destination}
 use Rattle.code.specs.Formed.{isOf, Formed, Accepted, Reads, FormedDestination}
-use Rattle.code.proofs.Parts.{row-is}
+use Rattle.operators.proofs.Rows.{row-is, no-row}
 use Rattle.code.proofs.Formed.{formed-narrow}
 
 -- a row's operator is of that row's strength; past the table stands Or, the weakest
@@ -43,7 +43,7 @@ strength-is row k h =
     (λ t. ap (λ (e : Entry). eqb (entryIn (rowOf (e .operator)) .strength) k) (none t) ∙ weaker ∙ ap (λ (e : Entry). eqb (e .strength) k) (sym (none t)))
   where
     none : ltb row (length table) ≡ false → entryIn row ≡ noEntry
-    none t = List·getD-eq-default table noEntry (ltb-false row (length table) t)
+    none t = no-row row (ltb-false row (length table) t)
 
     weaker : eqb 1 k ≡ eqb 0 k
     weaker = ne-eqb 1 k (λ e. omega arith) ∙ sym (ne-eqb 0 k (λ e. omega arith))

@@ -8,13 +8,13 @@ use native.Mathlib.Nat.{suc-add}
 use native.Mathlib.Numerals.{sub-one}
 use native.Mathlib.Omega.{arith}
 use lib.Dec.{eqb, ltb, leb·suc-suc}
-use lib.ListN.{length, take, drop, length-take}
+use lib.ListN.{length, take, drop, length-take, length-drop}
 use borrow.Author.Tests.{lt-ltb}
 use Rattle.characters.specs.Characters.{run}
 use Rattle.fields.specs.Fields.{tab, lineFeed, until, before, after, push, lines, firstLine, field, hasFields}
 use Rattle.characters.specs.declared.Class.the-variants.{Other}
 use Rattle.characters.proofs.Runs.{run-le, run-more, run-none}
-use Rattle.characters.proofs.Tests.{by-test}
+use Rattle.laws.proofs.Tests.{by-test}
 
 module _ (b : ℕ) (s : List ℕ) where
   ends : eqb b lineFeed ≡ true → lines (b ∷ s) ≡ record { bytes = []; ended = true } ∷ lines s
@@ -69,6 +69,10 @@ no-line (b ∷ s) h = absurd (omega arith)
 -- how long the part before a byte is
 pub before-length : (b : ℕ) (s : List ℕ) → length (before b s) ≡ until b s
 before-length b s = length-take (until b s) s ∙ omega (arith, run-le (Other b) s)
+
+-- what follows a byte is shorter
+pub after-shorter : (b : ℕ) (s t : List ℕ) → 0 < length s → t ≡ after b s → length t < length s
+after-shorter b s t h e = omega (arith, ap length e, length-drop (until b s + 1) s)
 
 -- field n of a line
 pub next-field : (n : ℕ) (s : List ℕ) → 0 < n → field n s ≡ field (n - 1) (after tab s)

@@ -7,9 +7,10 @@ use Prim.Native.Nat.{ℕ, suc, _+_, _≤_}
 use native.Mathlib.Omega.{arith}
 use lib.ListN.{length}
 use lib.Dec.{eqb}
+use Rattle.laws.proofs.Joined.{and-both}
 use Rattle.page.specs.Text.{lineFeed}
 use Rattle.image.specs.Input.{push, linesOf, form, formed}
-use Rattle.image.proofs.Form.{both, no-feed}
+use Rattle.image.proofs.Form.{no-feed}
 
 -- bytes put before the first line
 abbrev pub pushes : List ℕ → List (List ℕ) → List (List ℕ)
@@ -21,7 +22,7 @@ pub cut-before : (k : ℕ) (p text : List ℕ) → formed k p ≡ true → k + l
 unfolding linesOf formed
 cut-before k [] text e h = refl
 cut-before k (b ∷ p) text e h =
-    let parts = both (form k b) (formed (suc k) p) e in
+    let parts = and-both (form k b) (formed (suc k) p) e in
     rw (no-feed k b (omega arith) (parts .0), linesOf) (ap (push b) (cut-before (suc k) p text (parts .1) (omega arith)))
 
 pub pushes-some : (p line : List ℕ) (lines : List (List ℕ)) → pushes p (line ∷ lines) ≡ (p ++ line) ∷ lines

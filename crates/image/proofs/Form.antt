@@ -9,15 +9,12 @@ use native.Mathlib.Omega.{arith}
 use lib.ListN.{length, take, drop, length-append}
 use lib.Dec.{eqb, leb}
 use borrow.Author.Tests.{ne-eqb, eqb-true, leb-true}
+use Rattle.laws.proofs.Joined.{and-both}
 use Rattle.word.specs.Choice.{pick}
 use Rattle.state.specs.Limits.{memoryWords}
 use Rattle.page.specs.Text.{lineFeed, digit}
 use Rattle.image.specs.Input.{isOctal, form, formed, fit, octalValue, addressOf, wordOf}
 use Rattle.image.specs.Scan.{shifted}
-
-pub both : (a b : Bool) → (a && b) ≡ true → (a ≡ true) × (b ≡ true)
-both true b e = (refl, e)
-both false b e = absurd (false≢true e)
 
 -- ---- where an LF may stand
 
@@ -78,7 +75,7 @@ shifted-snoc x (d ∷ digits) b = shifted-snoc (shifted x d) digits b
 -- one octal digit
 shift : (x b bound : ℕ) → isOctal b ≡ true → x < bound → bound ≤ 512 → (shifted x b ≡ x * 8 + (b - digit 0)) × (x * 8 + (b - digit 0) < bound * 8)
 shift x b bound e h k =
-    let parts = both (leb (digit 0) b) (leb b (digit 7)) e in
+    let parts = and-both (leb (digit 0) b) (leb b (digit 7)) e in
     let low = leb-true (digit 0) b (parts .0) in
     let high = leb-true b (digit 7) (parts .1) in
     omega arith
@@ -91,10 +88,10 @@ record Four (digits : List ℕ) : Type 0 where
 four : (a b c d : ℕ) → (isOctal a && (isOctal b && (isOctal c && (isOctal d && true)))) ≡ true → Four (a ∷ b ∷ c ∷ d ∷ [])
 unfolding octalValue
 four a b c d e =
-    let ea = both (isOctal a) _ e in
-    let eb = both (isOctal b) _ (ea .1) in
-    let ec = both (isOctal c) _ (eb .1) in
-    let ed = both (isOctal d) _ (ec .1) in
+    let ea = and-both (isOctal a) _ e in
+    let eb = and-both (isOctal b) _ (ea .1) in
+    let ec = and-both (isOctal c) _ (eb .1) in
+    let ed = and-both (isOctal d) _ (ec .1) in
     let sa = shift 0 a 1 (ea .0) (omega arith) (omega arith) in
     let sb = shift _ b 8 (eb .0) (sa .1) (omega arith) in
     let sc = shift _ c 64 (ec .0) (sb .1) (omega arith) in
@@ -120,7 +117,7 @@ whole (a ∷ b ∷ c ∷ d ∷ t ∷ w ∷ x ∷ y ∷ []) e l = absurd (omega a
 whole (a ∷ b ∷ c ∷ d ∷ t ∷ w ∷ x ∷ y ∷ z ∷ v ∷ p) e l = absurd (omega arith)
 whole (a ∷ b ∷ c ∷ d ∷ t ∷ w ∷ x ∷ y ∷ z ∷ []) e l =
     let cut = formed-append 0 (a ∷ b ∷ c ∷ d ∷ []) (t ∷ w ∷ x ∷ y ∷ z ∷ []) in
-    let parts = both (formed 0 (a ∷ b ∷ c ∷ d ∷ [])) (formed 4 (t ∷ w ∷ x ∷ y ∷ z ∷ [])) (sym cut ∙ e) in
+    let parts = and-both (formed 0 (a ∷ b ∷ c ∷ d ∷ [])) (formed 4 (t ∷ w ∷ x ∷ y ∷ z ∷ [])) (sym cut ∙ e) in
     let address = four a b c d (parts .0) in
-    let word = four w x y z (both (form 4 t) (formed 5 (w ∷ x ∷ y ∷ z ∷ [])) (parts .1) .1) in
+    let word = four w x y z (and-both (form 4 t) (formed 5 (w ∷ x ∷ y ∷ z ∷ [])) (parts .1) .1) in
     record { address = rw (address .value) (mod-eq-of-lt (address .small)); word = word .value }

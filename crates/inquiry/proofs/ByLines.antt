@@ -15,7 +15,7 @@ use Rattle.word.proofs.Choice.{on-some}
 use Rattle.image.specs.Pass.{pass, nextLine, Countable}
 use Rattle.characters.specs.Characters.{run}
 use Rattle.fields.specs.Fields.{lineFeed, Line, push, lines, hasFields}
-use Rattle.characters.proofs.Tests.{by-test}
+use Rattle.laws.proofs.Tests.{by-test}
 use Rattle.entry.specs.Lines.{entry, isUnfit, lineBytes}
 use Rattle.inquiry.specs.Input.{Inquiry, ready, lineEntry, entered, asked, firstUnfit}
 use Rattle.inquiry.specs.Scan.{Scan, refusing, scanByte, scanOf, unfitLine}

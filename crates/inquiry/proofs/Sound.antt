@@ -17,7 +17,7 @@ use Rattle.machine.specs.State.{widths}
 use Rattle.image.specs.Pass.{pass}
 use Rattle.image.proofs.Sound.{clear-acceptable}
 use Rattle.fields.specs.Fields.{lineFeed, field}
-use Rattle.characters.proofs.Cases.{by-case}
+use Rattle.laws.proofs.Tests.{by-case}
 use Rattle.entry.specs.Lines.{entry, isUnfit, lineBytes}
 use Rattle.inquiry.specs.Input.{Inquiry, ready, entered}
 use Rattle.inquiry.specs.Scan.{Scan, ended, scanByte, begun, Reached}

@@ -12,7 +12,7 @@ use Rattle.characters.specs.Characters.{run, same}
 use Rattle.characters.specs.declared.Class.the-variants.{Other, Printable}
 use Rattle.fields.specs.Fields as fields
 use Rattle.fields.specs.Fields.{lineFeed, until, before, after, lines, field, firstLine}
-use Rattle.characters.proofs.Tests.{and-left, and-right}
+use Rattle.laws.proofs.Joined.{and-left, and-right}
 use Rattle.characters.proofs.Runs.{run-le}
 use Rattle.fields.proofs.Lines.{before-length}
 use Rattle.declaration.specs.declared.faults.Fault.the-variants.{Line}

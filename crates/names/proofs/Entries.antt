@@ -1,14 +1,14 @@
--- The laws of dictionaries: a name is looked for entry by entry, and an entry more leaves those before it as they are.
+-- The laws of dictionaries: how many entries there are, and each; a name is looked for entry by entry, and an entry more leaves those before it as they are.
 -- Assumes nothing.
 use mathlib.Core.Path.{_≡_, refl, sym, ap, _∙_}
 use mathlib.Core.Logic.{_≢_}
 use mathlib.Core.Bool.{true, false}
 use mathlib.Core.List.{List, [], _∷_, _++_}
 use Prim.Native.Nat.{ℕ, zero, suc, _+_, _-_, _≤_, _<_}
-use native.Mathlib.Nat.{zero-add, sub-zero, sub-add-eq}
+use native.Mathlib.Nat.{add-zero, zero-add, add-suc, suc-add, sub-zero, sub-add-eq}
 use native.Mathlib.Numerals.{add-one, sub-one}
 use native.Mathlib.Omega.{arith}
-use lib.ListN.{length, take, drop, set}
+use lib.ListN.{length, getD, take, drop, set}
 use lib.Seq.{getD-set-same, getD-set-other}
 use Rattle.characters.specs.Characters.{same}
 use Rattle.names.specs.Names.{Named, find, entryAt, entriesFrom, entries}
@@ -25,6 +25,23 @@ module _ (text : List ℕ) (d : Dictionary) where
   unfolding entriesFrom
   no-entry i zero h = refl
   no-entry i (suc n) h = absurd (omega arith)
+
+-- how many entries there are
+module _ (text : List ℕ) (d : Dictionary) where
+  counted : (n i : ℕ) → length (entriesFrom text d i n) ≡ n
+  unfolding entriesFrom
+  counted zero i = refl
+  counted (suc n) i = ap suc (counted n (suc i))
+
+  pub entries-length : length (entries text d) ≡ d .count
+  entries-length = counted (d .count) 0
+
+  -- each of them
+  pub entry-from : (n i j : ℕ) (z : Named) → j < n → getD (entriesFrom text d i n) j z ≡ entryAt text d (i + j)
+  unfolding entriesFrom
+  entry-from zero i j z h = absurd (omega arith)
+  entry-from (suc n) i zero z h = ap (entryAt text d) (sym (add-zero i))
+  entry-from (suc n) i (suc j) z h = entry-from n (suc i) j z (omega arith) ∙ ap (entryAt text d) (suc-add i j ∙ sym (add-suc i j))
 
 -- the search through a dictionary, from entry i on
 module _ (s text : List ℕ) (d : Dictionary) where

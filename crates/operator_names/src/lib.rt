@@ -1,11 +1,9 @@
 // The names of the operators, and the names that no register may take.
+use operators::OPERATORS;
 ghost use mathlib.Core.Path.{_≡_};
 ghost use lib.ListN.{drop};
 ghost use Prim.Native.Nat.{_+_};
 ghost use Rattle.operator_names.specs.OperatorNames.{operatorNames, findIn, operatorRow, isReserved};
-
-// How many operators there are: the row of none.
-const OPERATORS: usize = 10;
 
 // The row of a token that names none of the first seven operators.
 fn row_from_7(token: &[u8]) -> usize
@@ -20,6 +18,7 @@ fn row_from_7(token: &[u8]) -> usize
     if characters::is_same(token, b"Or") {
         9
     } else {
+        // the row of none
         OPERATORS
     }
 }

@@ -35,7 +35,7 @@ pub struct Entry {
     pub widths: Widths,
 }
 
-const OPERATORS: usize = 10;
+pub const OPERATORS: usize = 10;
 
 // "The strengths of the operators are one fixed table."
 const TABLE: [Entry; OPERATORS] = [

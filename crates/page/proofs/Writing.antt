@@ -2,27 +2,14 @@
 -- Assumes nothing.
 use mathlib.Core.Path.{_≡_, refl, sym, ap, ap₂, _∙_}
 use mathlib.Core.List.{List, [], _∷_, _++_}
-use Prim.Native.Nat.{ℕ, suc, _+_, _≤_, _<_}
+use Prim.Native.Nat.{ℕ, _+_, _≤_}
 use native.Mathlib.Omega.{arith}
-use native.Mathlib.Nat.{add-zero, zero-add, add-suc, suc-add, add-assoc, le-of-lt}
-use native.Mathlib.Numerals.{add-one}
-use lib.ListN.{length, take, drop, getD, set, length-append}
-use lib.Seq.{sets, sets-eq, length-sets, take-suc, length-take-le}
+use native.Mathlib.Nat.{add-zero, zero-add, add-assoc}
+use lib.ListN.{length, drop, length-append}
+use lib.Seq.{sets, sets-eq, length-sets}
+use Rattle.laws.proofs.Lists.{sets-append}
 use Rattle.page.specs.Written.{Written, Page}
 
-sets-append : (page : List ℕ) (at : ℕ) (text more : List ℕ) → sets (sets page at text) (at + length text) more ≡ sets page at (text ++ more)
-sets-append page at [] more = rw (add-zero at)
-sets-append page at (b ∷ text) more = rw (add-suc at (length text), ← suc-add at (length text)) (sets-append _ (suc at) text more)
-
--- the next byte of a text
-pub sets-more : (page text : List ℕ) (at i : ℕ) → i < length text
-    → set (sets page at (take i text)) (at + i) (getD text i 0) ≡ sets page at (take (i + 1) text)
-sets-more page text at i h =
-    ap (λ (n : ℕ). set (sets page at (take i text)) (at + n) (getD text i 0)) (sym (length-take-le i text (le-of-lt h)))
-    ∙ sets-append page at (take i text) (getD text i 0 ∷ [])
-    ∙ ap (sets page at) (sym (take-suc text i 0 h) ∙ ap (λ (n : ℕ). take n text) (sym (add-one i)))
-
--- nothing, and one text after another
 pub written-none : (page : List ℕ) (at : ℕ) → Written [] page at page at
 written-none page at = record { page = refl; place = sym (add-zero at) }
 

@@ -7,6 +7,7 @@ use Prim.Native.Nat.{ℕ, zero, suc, _+_, _-_, _*_, _≤_, _<_, suc-le-suc}
 use native.Mathlib.Nat.{zero-add, add-zero, suc-add, add-suc, le-of-suc-le-suc, zero-lt-suc}
 use native.Mathlib.Numerals.{add-one}
 use native.Mathlib.Omega.{arith}
+use Rattle.laws.proofs.Tests.{by-test}
 use Rattle.word.specs.Choice.{on, pick, choose}
 use Rattle.word.proofs.Choice.{case-true, case-false}
 use Rattle.state.specs.declared.Reason.{Reason}
@@ -59,11 +60,6 @@ bound-le n (suc (suc b)) h = absurd (omega arith)
 pub below-bound : (budget done end : ℕ) (b : Bool) → end ≡ pick b budget 0 → done < end → (done < budget) × (b ≡ true) × (end ≡ budget)
 below-bound budget done end true e h = (omega (arith, e, h), refl, e)
 below-bound budget done end false e h = absurd (omega (arith, e, h))
-
--- by the two values of a test
-by-test : {P : Type 0} (b : Bool) → (b ≡ true → P) → (b ≡ false → P) → P
-by-test true yes₁ no₁ = yes₁ refl
-by-test false yes₁ no₁ = no₁ refl
 
 -- steps that reach it: RUN is 0, or the budget is done
 pub run-bound : (budget done end : ℕ) (s : State) → end ≡ choose (s .run) budget 0 → end ≤ done → runFrom (budget - done) done s ≡ ended done s

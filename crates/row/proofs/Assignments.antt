@@ -7,6 +7,7 @@ use Prim.Native.Nat.{ℕ, _+_, _*_, _≤_}
 use native.Mathlib.Omega.{arith}
 use lib.ListN.{length, length-append}
 use lib.Seq.{sets}
+use Rattle.laws.proofs.Tests.{not-so}
 use Rattle.fields.specs.Fields.{field}
 use Rattle.names.specs.Names.{Named}
 use Rattle.code.specs.declared.Cursor.{Cursor}
@@ -19,14 +20,14 @@ use Rattle.expression.specs.Met.{Aims}
 use Rattle.expression.specs.declared.Place.{Place}
 use Rattle.expression.specs.declared.Place.the-variants.{Register, Bits, Word, Nowhere}
 use Rattle.expression.proofs.Formed.{ordered}
-use Rattle.code.proofs.Stores.{sets-behind}
+use Rattle.laws.proofs.Lists.{sets-behind}
 use Rattle.declaration.specs.Rows.{Row, does, addressPieces}
 use Rattle.row.specs.declared.cells.Aim.{Aim}
 use Rattle.row.specs.declared.actions.RowRead.{RowRead}
 use Rattle.row.specs.Lines.{isSomewhere, formed, unformed, doRow}
 use Rattle.row.specs.Cells.{addressCode, rowCode, kindOf, registerOf, rightOf, sizeOf, cellsOf, doCells}
 use Rattle.row.specs.Stored.{Aiming, Aimed, HasRow, InOrder, aimOf}
-use Rattle.row.proofs.RowLines.{ReadAs, not-so}
+use Rattle.row.proofs.RowLines.{ReadAs}
 
 -- the cells of a destination whose address reaches to end
 abbrev cells-of : Destination → Cursor → Aim

@@ -13,7 +13,8 @@ use Rattle.word.specs.Choice.{pick}
 use Rattle.fields.specs.Fields as text
 use Rattle.fields.specs.Fields.{field, hasFields, lines}
 use Rattle.names.specs.Names.{entries, isName}
-use Rattle.characters.proofs.Tests.{by-test, and-left, and-right}
+use Rattle.laws.proofs.Joined.{and-left, and-right}
+use Rattle.laws.proofs.Tests.{by-test, not-so}
 use Rattle.code.specs.declared.Cursor.{Cursor}
 use Rattle.code.specs.declared.Part.the-variants.{Found}
 use Rattle.code.specs.Tree.{Expr}
@@ -102,12 +103,6 @@ module _ (p : Progress) (row : Row) (gone : ℕ) where
   unfolding addRow
   row-full t = rw (t, addRow)
 
-picked : {A : Type 0} (b : Bool) (x y : A) → b ≡ true → pick b x y ≡ x
-picked b x y e = rw e
-
-passed-over : {A : Type 0} (b : Bool) (x y : A) → b ≡ false → pick b x y ≡ y
-passed-over b x y e = rw e
-
 -- where a line starts counting
 abbrev pub before : code.Progress → Cursor
 before q = record { place = 0; words = q .words; pieces = q .pieces }
@@ -140,7 +135,7 @@ module _ (text : List ℕ) (q : code.Progress) (h : Within q) (row : Row) (cs : 
         holds = λ k.
             tables-more rs row t (forms .code-is) (forms .words-are)
             (put .table-is
-            ∙ picked (hasRoom q end) (sets table₁ (rowCells * q .rows) cs) table₁ u
+            ∙ ap (λ (b : Bool). pick b (sets table₁ (rowCells * q .rows) cs) table₁) u
             ∙ ap (sets table₁ (rowCells * q .rows)) (forms .cells-are));
       }
 
@@ -159,10 +154,10 @@ module _ (text : List ℕ) (q : code.Progress) (h : Within q) (row : Row) (cs : 
   takes-row =
       by-test room
       (λ u.
-      subst (λ (x : taken.Step). Takes text (λ (p : Progress). addRow p row gone) q x code₁ code₂ table₁ table₂) (sym (put .is ∙ picked room more full u))
+      subst (λ (x : taken.Step). Takes text (λ (p : Progress). addRow p row gone) q x code₁ code₂ table₁ table₂) (sym (put .is ∙ ap (λ (b : Bool). pick b more full) u))
       (record { comes = λ rs code₀ table₀ t. added u rs code₀ table₀ t; within = within-more u }))
       (λ u.
-      subst (λ (x : taken.Step). Takes text (λ (p : Progress). addRow p row gone) q x code₁ code₂ table₁ table₂) (sym (put .is ∙ passed-over room more full u))
+      subst (λ (x : taken.Step). Takes text (λ (p : Progress). addRow p row gone) q x code₁ code₂ table₁ table₂) (sym (put .is ∙ ap (λ (b : Bool). pick b more full) u))
       (record {
         comes = λ rs code₀ table₀ t.
             record { rows = rs; is = row-full (progressOf text q rs) row gone (row-room rs t ∙ u); holds = λ k. not-goes Limit k };
@@ -248,9 +243,6 @@ module _ (text : List ℕ) (q : code.Progress) (h : Within q) (n : ℕ) (line be
       takes-refused text (λ (p : Progress). goLine p n (lines below) line) q Label r (j .nameless u)
       (λ rs. go-unnamed (progressOf text q rs) n line below (found .tree) (found .place) fields condition-is u)
       h)
-
-pub not-so : (b : Bool) {P : Type 0} → b ≡ true → b ≡ false → P
-not-so b e f = absurd (mathlib.Core.Bool.false≢true (sym f ∙ e))
 
 -- a `go` by the label that the code holds
 module _ (q : code.Progress) (n : ℕ) (label held : List ℕ) (below : List text.Line) (second : held ≡ label) (end : Cursor) (r : taken.Step)

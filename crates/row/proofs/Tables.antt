@@ -2,26 +2,19 @@
 -- Assumes nothing.
 use mathlib.Core.Path.{_≡_, refl, sym, ap, _∙_}
 use mathlib.Core.List.{List, [], _∷_, _++_, append-nil, append-assoc}
-use Prim.Native.Nat.{ℕ, _+_, _*_, _≤_, _<_}
+use Prim.Native.Nat.{ℕ, _+_, _*_, _≤_}
 use native.Mathlib.Nat.{add-zero, zero-add}
-use native.Mathlib.Numerals.{add-one}
 use native.Mathlib.Omega.{arith}
-use lib.ListN.{length, getD, take, set, length-append}
-use lib.Seq.{sets, take-suc, length-take-le}
+use lib.ListN.{length, length-append}
+use lib.Seq.{sets}
 use Rattle.code.specs.Code.{codeOf}
 use Rattle.code.specs.Tree.{Destination, toRegister, toPart, toMemory, nowhere}
-use Rattle.code.proofs.Stores.{sets-behind}
+use Rattle.laws.proofs.Lists.{sets-behind}
 use Rattle.code.proofs.Pieces.{code-pieces}
 use Rattle.declaration.specs.Rows.{Row, does, goes, rowPieces, addressPieces}
 use Rattle.row_table.specs.RowTable.{rowCells}
 use Rattle.row.specs.Cells.{addressCode, rowCode, code, cellsOf, cells}
 use Rattle.row.specs.Stored.{Tables}
-
--- one cell more
-pub one-cell : (l cs : List ℕ) (at i : ℕ) → i < length cs → set (sets l at (take i cs)) (at + i) (getD cs i 0) ≡ sets l at (take (i + 1) cs)
-one-cell l cs at i h =
-    sets-behind l at (at + i) (take i cs) (getD cs i 0 ∷ []) (ap (λ (k : ℕ). at + k) (sym (length-take-le i cs (omega (arith, h)))))
-    ∙ ap (sets l at) (sym (ap (λ (k : ℕ). take k cs) (add-one i) ∙ take-suc cs i 0 h))
 
 -- a word costs a piece
 pub row-code-pieces : (row : Row) → length (rowCode row) ≤ 4 * rowPieces row
@@ -53,7 +46,7 @@ pub row-length : (at : ℕ) (row : Row) → length (cellsOf at row) ≡ rowCells
 row-length at (does c d e) = refl
 row-length at (goes c n) = refl
 
-cells-length : (rs : List Row) (at : ℕ) → length (cells at rs) ≡ rowCells * length rs
+pub cells-length : (rs : List Row) (at : ℕ) → length (cells at rs) ≡ rowCells * length rs
 unfolding cells
 cells-length [] at = refl
 cells-length (r ∷ rs) at =

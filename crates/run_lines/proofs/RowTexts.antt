@@ -15,7 +15,7 @@ use Rattle.page.proofs.Numbers.{decimal-length}
 use Rattle.characters.specs.Characters.{run, same}
 use Rattle.fields.specs.Fields.{lineFeed, before, after, Line, lines, firstLine, field}
 use Rattle.fields.proofs.Lines.{first-line}
-use Rattle.characters.proofs.Tests.{and-left, and-right}
+use Rattle.laws.proofs.Joined.{and-left, and-right}
 use Rattle.pdp8_rows.specs.Text.{shippedText}
 use Rattle.targets.specs.Targets.{isRow}
 use Rattle.run_lines.specs.Rows.{rowTexts, rowOf, rowLine, rowLines, rowLineBytes}

@@ -43,9 +43,9 @@ module _ (m : Machine) (registers memory : List ℕ) (budget : ℕ) (list : List
       record {
         places = places;
         machine = machine;
-        fitting = sound .1 .0;
+        fitting = sound .1;
         acceptable = sound .0;
-        within = sound .1 .1;
+        within = sound .2;
         roomy = row-list-long (length list) (outer .1);
       }
 

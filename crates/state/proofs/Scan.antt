@@ -13,12 +13,6 @@ use lib.Seq.{drop-cons}
 use Rattle.word.specs.Word.{fits}
 use Rattle.state.specs.Checks.{firstUnfit}
 
--- within a list the default is never read
-pub getD-any : (l : List ℕ) (k d e : ℕ) → k < length l → getD l k d ≡ getD l k e
-getD-any [] k d e h = absurd (not-suc-le-zero h)
-getD-any (x ∷ xs) zero d e h = refl
-getD-any (x ∷ xs) (suc k) d e h = getD-any xs k d e (le-of-suc-le-suc h)
-
 module _ (width : ℕ → ℕ) (l : List ℕ) (i : ℕ) where
   -- past the last place
   pub scan-end : length l ≤ i → firstUnfit width i (drop i l) ≡ i

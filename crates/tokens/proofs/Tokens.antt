@@ -1,25 +1,18 @@
--- The laws of tokens: where they end, and that a byte that is there stands within the field.
+-- The laws of tokens: where they end, and what stands next.
 -- Assumes nothing.
 use mathlib.Core.Path.{_≡_, sym, ap, _∙_}
 use mathlib.Core.Bool.{true, false}
 use mathlib.Core.List.{List}
 use Prim.Native.Nat.{ℕ, _+_, _≤_, _<_}
 use native.Mathlib.Omega.{arith}
-use lib.Dec.{ltb, eqb}
-use lib.ListN.{length, getD, List·getD-eq-default}
-use borrow.Author.Tests.{ltb-true, ltb-false, eq-eqb, ne-eqb}
+use lib.Dec.{eqb}
+use lib.ListN.{length, getD}
+use borrow.Author.Tests.{eq-eqb, ne-eqb}
 use Rattle.characters.specs.Characters.{isWord, runEnd}
 use Rattle.characters.specs.declared.Class.the-variants.{Word}
 use Rattle.characters.proofs.Runs.{onward, within, run-onward}
-use Rattle.characters.proofs.Tests.{by-test}
+use Rattle.laws.proofs.Tests.{by-test}
 use Rattle.tokens.specs.Tokens.{skip, next, tokenEnd}
-
--- a byte that isn't 0 stands within
-pub present : (s : List ℕ) (at b : ℕ) → getD s at 0 ≡ b → 0 < b → at < length s
-present s at b e h =
-    by-test (ltb at (length s))
-    (λ t. ltb-true at (length s) t)
-    (λ t. absurd (omega (arith, List·getD-eq-default s 0 (ltb-false at (length s) t))))
 
 -- a token ends with its run of letters, digits and dots, or after its one sign; and it is not empty
 module _ (s : List ℕ) (at : ℕ) where

@@ -2,8 +2,9 @@
 -- Assumes nothing.
 use mathlib.Core.Path.{_≡_, refl, ap}
 use native.Mathlib.Omega.{arith}
-use Prim.Native.Nat.{ℕ, _<_}
-use mathlib.Core.Bool.{Bool, true, false, not}
+use Prim.Native.Nat.{ℕ, zero, suc, _<_}
+use mathlib.Core.Bool.{Bool, true, false, not, _&&_}
+use lib.Bits.{bitAnd}
 use borrow.Author.Tests.{ne-eqb}
 use Rattle.word.specs.Choice.{on, pick, choose, bit}
 
@@ -35,3 +36,13 @@ on-bit false = refl
 pub bit-lt : (t : Bool) → bit t < 2
 bit-lt true = omega arith
 bit-lt false = omega arith
+
+-- two bits that are both on, as one test of their and
+pub on-and : (a b : ℕ) → a < 2 → b < 2 → on a && on b ≡ on (bitAnd a b)
+on-and zero zero h q = refl
+on-and zero (suc zero) h q = refl
+on-and (suc zero) zero h q = refl
+on-and (suc zero) (suc zero) h q = refl
+on-and (suc (suc a)) b h q = absurd (omega arith)
+on-and zero (suc (suc b)) h q = absurd (omega arith)
+on-and (suc zero) (suc (suc b)) h q = absurd (omega arith)

@@ -12,7 +12,8 @@ use Rattle.characters.specs.declared.Class.the-variants.{Word}
 use Rattle.bit_parts.specs.declared.Reference.the-variants.{Unknown}
 use Rattle.tokens.specs.Tokens.{slice}
 use Rattle.bit_parts.specs.References.{widthIn, registerAt, referenceAt}
-use Rattle.bit_parts.proofs.Listed.{entries-length, width-is}
+use Rattle.names.proofs.Entries.{entries-length}
+use Rattle.bit_parts.proofs.Listed.{width-is}
 use borrow.Author.Needs.{needs}
 use Rattle.bit_parts.proofs.reference_at.Statement.{statement}
 use Rattle.bit_parts.proofs.reference_at.Tie as tie

@@ -2,7 +2,8 @@
 use mathlib.Core.Path.{sym, ap, _∙_}
 use Prim.Native.Nat.{ℕ, _+_}
 use native.Mathlib.Omega.{arith}
-use Rattle.tokens.proofs.Tokens.{present, at-mark, off-mark}
+use Rattle.laws.proofs.Lists.{present}
+use Rattle.tokens.proofs.Tokens.{at-mark, off-mark}
 use Rattle.bit_parts.specs.References.{partOf, spanAt, registerAt}
 use borrow.Author.Needs.{needs}
 use Rattle.bit_parts.proofs.register_at.Statement.{statement}

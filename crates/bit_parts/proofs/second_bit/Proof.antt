@@ -1,7 +1,8 @@
 -- `bit_parts::second_bit` is its definition, case by case.
 use mathlib.Core.Path.{sym, _∙_}
 use native.Mathlib.Omega.{arith}
-use Rattle.tokens.proofs.Tokens.{present, at-mark, off-mark}
+use Rattle.laws.proofs.Lists.{present}
+use Rattle.tokens.proofs.Tokens.{at-mark, off-mark}
 use Rattle.bit_parts.specs.References.{secondBit}
 use borrow.Author.Needs.{needs}
 use Rattle.bit_parts.proofs.second_bit.Statement.{statement}

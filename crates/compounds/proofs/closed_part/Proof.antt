@@ -3,7 +3,8 @@ use mathlib.Core.Path.{sym, _∙_}
 use Prim.Native.Nat.{_+_}
 use native.Mathlib.Omega.{arith}
 use borrow.Author.Tests.{eq-eqb, ne-eqb}
-use Rattle.tokens.proofs.Tokens.{present, at-mark, off-mark}
+use Rattle.laws.proofs.Lists.{present}
+use Rattle.tokens.proofs.Tokens.{at-mark, off-mark}
 use Rattle.compounds.proofs.Making.{left-open, square, round}
 use borrow.Author.Needs.{needs}
 use Rattle.compounds.proofs.closed_part.Statement.{statement}

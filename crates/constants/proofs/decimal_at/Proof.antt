@@ -11,7 +11,7 @@ use Rattle.constants.specs.Constants.{numberAt, decimalDigits, largest, 
 use Rattle.characters.specs.declared.Class.the-variants.{Word}
 use Rattle.characters.proofs.Runs.{after-start, before-end}
 use Rattle.constants.proofs.Digits.{no-decimal}
-use Rattle.characters.proofs.Tests.{and-left, and-right}
+use Rattle.laws.proofs.Joined.{and-left, and-right}
 use borrow.Author.Needs.{needs}
 use Rattle.constants.proofs.decimal_at.Statement.{statement}
 use Rattle.constants.proofs.decimal_at.Tie as tie

@@ -5,7 +5,7 @@ use mathlib.Core.Bool.{_&&_}
 use lib.Dec.{ltb, leb}
 use lib.ListN.{length}
 use borrow.Author.Tests.{leb-true, le-leb, lt-leb}
-use Rattle.characters.proofs.Tests.{and-left, and-right}
+use Rattle.laws.proofs.Joined.{and-left, and-right}
 use Rattle.entry.specs.Lines.{budgetDigits, budgetEntry}
 use Rattle.entry.proofs.budget_entry.Statement.{statement}
 use Rattle.entry.proofs.budget_entry.Tie as tie

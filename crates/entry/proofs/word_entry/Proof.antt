@@ -6,7 +6,7 @@ use mathlib.Core.Bool.{true}
 use mathlib.Core.List.{List}
 use Prim.Native.Nat.{ℕ}
 use Rattle.characters.specs.declared.Class.the-variants.{Octal}
-use Rattle.characters.proofs.Tests.{and-left, and-right}
+use Rattle.laws.proofs.Joined.{and-left, and-right}
 use Rattle.entry.specs.Lines.{isDigits, wordEntry}
 use Rattle.entry.proofs.Digits.{digits-size, octal-lt}
 use Rattle.entry.proofs.word_entry.Statement.{statement}

@@ -4,7 +4,7 @@ use Prim.Native.Nat.{_+_}
 use native.Mathlib.Omega.{arith}
 use Rattle.names.specs.Names.{entries}
 use Rattle.operators.specs.Operators.{weakest}
-use Rattle.tokens.proofs.Tokens.{present}
+use Rattle.laws.proofs.Lists.{present}
 use Rattle.grammar.specs.Grammar.{squareOpen, level, fuel}
 use Rattle.expression.specs.Expression.{ofAddress, memoryAt}
 use Rattle.expression.proofs.Destinations.{address-fault, aimed, opens, bare}

@@ -2,7 +2,7 @@
 use mathlib.Core.Path.{sym}
 use lib.ListN.{List·getD-eq-default}
 use Rattle.operators.specs.Operators.{table, noEntry}
-use Rattle.operators.proofs.Defaults.{any-default}
+use Rattle.laws.proofs.Lists.{any-default}
 use borrow.Author.Needs.{needs}
 use Rattle.operators.proofs.entry_in.Statement.{statement}
 use Rattle.operators.proofs.entry_in.Tie as tie

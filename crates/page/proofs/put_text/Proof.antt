@@ -4,7 +4,7 @@ use mathlib.Core.Path.{_≡_, refl, ap, _∙_}
 use Prim.Native.Nat.{_+_, _-_, _≤_}
 use lib.ListN.{length, take, getD, set, length-set}
 use lib.Seq.{sets, take-all}
-use Rattle.page.proofs.Writing.{sets-more}
+use Rattle.laws.proofs.Lists.{sets-more}
 use Rattle.page.proofs.put_text.Statement.{statement}
 use Rattle.page.proofs.put_text.Tie as tie
 

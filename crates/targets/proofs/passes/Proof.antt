@@ -2,19 +2,16 @@
 use mathlib.Core.Path.{_≡_, sym, ap, _∙_}
 use mathlib.Core.Logic.{inl, inr}
 use mathlib.Core.List.{List}
-use Prim.Native.Nat.{ℕ, _+_, _≤_, _<_}
+use Prim.Native.Nat.{ℕ, _+_, _≤_}
 use native.Mathlib.Omega.{arith}
-use lib.ListN.{length, length-drop}
-use Rattle.fields.specs.Fields.{lineFeed, until, after, lines}
+use lib.ListN.{length}
+use Rattle.fields.proofs.Lines.{after-shorter}
+use Rattle.fields.specs.Fields.{lineFeed, lines}
 use Rattle.targets.specs.Targets.{isAt, isRow, further, passes}
 use Rattle.targets.proofs.Counting.{from-none, arrived, past-row, past-other, nowhere}
 use borrow.Author.Needs.{needs}
 use Rattle.targets.proofs.passes.Statement.{statement}
 use Rattle.targets.proofs.passes.Tie as tie
-
--- what follows a line is shorter
-shorter : (s t : List ℕ) → 0 < length s → t ≡ after lineFeed s → length t < length s
-shorter s t h e = omega (arith, ap length e, length-drop (until lineFeed s + 1) s)
 
 abbrev Inv-loop : tie.InvT-loop
 Inv-loop label below rest₀ n₀ rest n =
@@ -54,7 +51,7 @@ part-after-requires c κs = search needs
 
 loop-less : tie.Need-loop-less Inv-loop μ-loop
 loop-less c =
-    shorter _ _ (c .before .before .before .before .before .before .loop-test .taken) (c .part-after .ensures)
+    after-shorter lineFeed _ _ (c .before .before .before .before .before .before .loop-test .taken) (c .part-after .ensures)
 
 loop-again : tie.Need-loop-again Inv-loop μ-loop
 loop-again c =
@@ -67,7 +64,7 @@ loop-again c =
     let at = ap (isAt label) line ∙ sym (tested .before .is-at .ensures) ∙ tested .if1 .left in
     let row = ap isRow line ∙ sym (c .before .before .is-row .ensures) in
     let rest = sym (c .part-after .ensures) in
-    let less = shorter (l .rest .now) _ h (c .part-after .ensures) in
+    let less = after-shorter lineFeed (l .rest .now) _ h (c .part-after .ensures) in
     elim (c .before .if2 .came) [
       | inl y ↦ (
         l .inv .0 ∙ past-row label (l .rest .now) (l .n) h at (row ∙ y .0 .taken) ∙ rw (y .1) (ap (λ (s : List ℕ). further (l .n + 1) (passes label (lines s))) rest),

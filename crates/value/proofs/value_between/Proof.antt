@@ -2,7 +2,7 @@
 use native.Mathlib.Omega.{arith}
 use lib.Dec.{leb}
 use borrow.Author.Tests.{leb-true}
-use Rattle.characters.proofs.Tests.{and-left, and-right}
+use Rattle.laws.proofs.Joined.{and-left, and-right}
 use Rattle.value.specs.Words.{codePlaces, between}
 use borrow.Author.Needs.{needs}
 use Rattle.value.proofs.value_between.Statement.{statement}

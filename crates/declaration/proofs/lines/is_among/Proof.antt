@@ -1,7 +1,7 @@
 -- `lines::is_among`: its place is one of the names.
 use mathlib.Core.Path.{sym, ap}
 use lib.Dec.{ltb}
-use Rattle.bit_parts.proofs.Listed.{entries-length}
+use Rattle.names.proofs.Entries.{entries-length}
 use borrow.Author.Needs.{needs}
 use Rattle.declaration.proofs.lines.is_among.Statement.{statement}
 use Rattle.declaration.proofs.lines.is_among.Tie as tie

@@ -3,7 +3,7 @@ use mathlib.Core.Path.{_∙_}
 use mathlib.Core.Bool.{not}
 use native.Mathlib.Omega.{arith}
 use Rattle.fields.specs.Fields.{hasFields}
-use Rattle.characters.proofs.Tests.{and-left}
+use Rattle.laws.proofs.Joined.{and-left}
 use Rattle.declaration.specs.declared.faults.Fault.the-variants.{Line}
 use Rattle.declaration.specs.Lines.{regWord, regLine, addRegister}
 use Rattle.declaration.proofs.Fields.{stands}

@@ -1,9 +1,9 @@
 -- `reader::read_lines`: line by line, with the rows behind what was read so far.
-use mathlib.Core.Path.{refl, ap}
-use Prim.Native.Nat.{_+_}
+use mathlib.Core.Path.{refl}
 use native.Mathlib.Omega.{arith}
-use lib.ListN.{length, length-drop}
-use Rattle.fields.specs.Fields.{lineFeed, until}
+use lib.ListN.{length}
+use Rattle.fields.proofs.Lines.{after-shorter}
+use Rattle.fields.specs.Fields.{lineFeed}
 use Rattle.description.proofs.Texts.{Turning, turn-start, turn-refused, turn-next, turn-last, tells-refused}
 use borrow.Author.Needs.{needs}
 use Rattle.description.proofs.reader.read_lines.Statement.{statement}
@@ -61,8 +61,7 @@ add-n c =
 loop-less : tie.Need-loop-less Inv-loop μ-loop
 loop-less c =
     let test = c .before .before .before .before .before .before .before in
-    let rest = test .before .loop .rest .now in
-    omega (arith, ap length (c .part-after2 .ensures), length-drop (until lineFeed rest + 1) rest, test .loop-test .taken)
+    after-shorter lineFeed (test .before .loop .rest .now) _ (test .loop-test .taken) (c .part-after2 .ensures)
 
 loop-again : tie.Need-loop-again Inv-loop μ-loop
 loop-again c =

@@ -15,7 +15,7 @@ use Rattle.characters.specs.Characters.{isLetter, runEnd}
 use Rattle.constants.specs.Constants.{constantAt}
 use Rattle.characters.specs.declared.Class.the-variants.{Space, Word}
 use Rattle.characters.proofs.Runs.{onward, within, after-start}
-use Rattle.tokens.proofs.Tokens.{present}
+use Rattle.laws.proofs.Lists.{present}
 use Rattle.bit_parts.proofs.Onward.{letters-past, word-of-letter}
 use Rattle.grammar.proofs.read_enclosed.Reads as read-enclosed
 use Rattle.grammar.proofs.read_negated.Reads as read-negated

@@ -4,13 +4,14 @@ use mathlib.Core.Bool.{true}
 use mathlib.Core.List.{List}
 use Prim.Native.Nat.{ℕ}
 use native.Mathlib.Omega.{arith}
+use Rattle.laws.proofs.Tests.{not-so}
 use Rattle.names.specs.Names.{entries}
 use Rattle.expression.specs.Expression.{expression, destination}
 use Rattle.grammar.proofs.Calls.{faulty}
 use Rattle.declaration.proofs.Fields.{field-2-le, fields-2-3-le}
 use Rattle.row.specs.declared.actions.RowRead.{RowRead}
 use Rattle.row.specs.Lines.{isSomewhere}
-use Rattle.row.proofs.RowLines.{read-as, not-so}
+use Rattle.row.proofs.RowLines.{read-as}
 use Rattle.row.proofs.Assignments.{row-forms, with-fields, no-value, no-destination}
 use borrow.Author.Needs.{needs}
 use Rattle.row.proofs.actions.read_action.Statement.{statement}

@@ -1,13 +1,14 @@
 -- `actions::read_row`: the condition, then the rest.
 use mathlib.Core.Path.{refl, sym, ap, _∙_}
 use native.Mathlib.Omega.{arith}
+use Rattle.laws.proofs.Tests.{not-so}
 use Rattle.fields.specs.Fields.{field}
 use Rattle.names.specs.Names.{entries}
 use Rattle.code.specs.declared.Part.the-variants.{Found}
 use Rattle.expression.specs.Expression.{expression, destination}
 use Rattle.grammar.proofs.Calls.{faulty, moved}
 use Rattle.declaration.proofs.Fields.{field-1-le, field-1-rest-le}
-use Rattle.row.proofs.RowLines.{read-as, not-so}
+use Rattle.row.proofs.RowLines.{read-as}
 use Rattle.row.proofs.Assignments.{no-condition, with-condition, without-row}
 use borrow.Author.Needs.{needs}
 use Rattle.row.proofs.actions.read_row.Statement.{statement}

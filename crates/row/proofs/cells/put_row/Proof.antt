@@ -6,7 +6,7 @@ use native.Mathlib.Omega.{arith}
 use lib.ListN.{take, set, getD}
 use lib.Seq.{sets, take-all}
 use Rattle.row_table.specs.RowTable.{rowCells}
-use Rattle.row.proofs.Tables.{one-cell}
+use Rattle.laws.proofs.Lists.{sets-more}
 use borrow.Author.Needs.{needs}
 use Rattle.row.proofs.cells.put_row.Statement.{statement}
 use Rattle.row.proofs.cells.put_row.Tie as tie
@@ -53,7 +53,7 @@ loop-again c =
     let i = c .before .loop .i in (
       omega (arith, c .loop-test .taken),
       ap (λ (l : List ℕ). set l (rowCells * a .row + i) (getD (a .t3) i 0)) (c .before .loop .inv .1)
-          ∙ one-cell (a .table .now) (a .t3) (rowCells * a .row) i (search needs),
+          ∙ sets-more (a .table .now) (a .t3) (rowCells * a .row) i (search needs),
     )
 
 returns : tie.Need-returns Inv-loop μ-loop

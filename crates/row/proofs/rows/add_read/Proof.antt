@@ -1,6 +1,6 @@
 -- `rows::add_read`: the row, if one was read.
-use Rattle.row.proofs.RowLines.{not-so}
 use borrow.Author.Needs.{needs}
+use Rattle.laws.proofs.Tests.{not-so}
 use Rattle.row.proofs.rows.add_read.Statement.{statement}
 use Rattle.row.proofs.rows.add_read.Tie as tie
 

@@ -1,6 +1,6 @@
 -- `rows::add_row`: the cells are stored if there is room.
 use borrow.Author.Tests.{ltb-true}
-use Rattle.characters.proofs.Tests.{and-left}
+use Rattle.laws.proofs.Joined.{and-left}
 use borrow.Author.Needs.{needs}
 use Rattle.row.proofs.rows.add_row.Statement.{statement}
 use Rattle.row.proofs.rows.add_row.Tie as tie

@@ -2,13 +2,13 @@
 use borrow.Author.Needs.{needs}
 use mathlib.Core.Path.{_≡_, sym, ap, ap₂, _∙_}
 use mathlib.Core.List.{[]}
-use native.Mathlib.Omega.{arith}
-use Prim.Native.Nat.{_+_, _-_}
+use Prim.Native.Nat.{_-_}
 use lib.Dec.{eqb}
-use lib.ListN.{length, getD, length-drop}
+use lib.ListN.{length, getD}
 use borrow.Author.Tests.{eqb-true}
-use Rattle.fields.specs.Fields.{lineFeed, until, lines}
-use Rattle.characters.proofs.Tests.{and-left, and-right}
+use Rattle.fields.proofs.Lines.{after-shorter}
+use Rattle.fields.specs.Fields.{lineFeed, lines}
+use Rattle.laws.proofs.Joined.{and-left, and-right}
 use Rattle.targets.specs.Targets.{isRow}
 use Rattle.run_lines.specs.Rows.{rowTexts}
 use Rattle.run_lines.proofs.RowTexts.{row-found, row-passed, row-none}
@@ -49,8 +49,9 @@ part-after-requires : tie.Need-part-after-requires Inv-loop μ-loop
 part-after-requires c κs = search needs
 
 loop-less : tie.Need-loop-less Inv-loop μ-loop
-loop-less c = let rest = c .before .before .before .before .before .before .loop .rest .now in
-    omega (arith, ap length (c .part-after .ensures), length-drop (until lineFeed rest + 1) rest, c .before .before .before .before .before .loop-test .taken)
+loop-less c =
+    let test = c .before .before .before .before .before in
+    after-shorter lineFeed (test .before .loop .rest .now) _ (test .loop-test .taken) (c .part-after .ensures)
 
 loop-again : tie.Need-loop-again Inv-loop μ-loop
 loop-again c = let at = c .before .before .before .before .before .before .loop in

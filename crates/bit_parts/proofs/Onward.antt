@@ -10,7 +10,7 @@ use lib.ListN.{length, getD, drop-of-length-le, List·getD-eq-default}
 use lib.Seq.{take-nil}
 use borrow.Author.Tests.{ltb-true, ltb-false, leb-true, eqb-true}
 use Rattle.characters.specs.Characters.{isDigit, isLetter, isWord, runEnd, same}
-use Rattle.constants.specs.Constants.{numberAt, isPlain, largest, decimalAt, markedAt, ofDecimal, constantAt, binaryDigits, octalDigits}
+use Rattle.constants.specs.Constants.{binaryMark, octalMark, numberAt, isPlain, largest, decimalAt, markedAt, ofDecimal, constantAt, binaryDigits, octalDigits}
 use Rattle.names.specs.Names.{Named, find}
 use Rattle.characters.specs.declared.Class.{Class}
 use Rattle.characters.specs.declared.Class.the-variants.{Space, Word, Binary, Octal, Decimal}
@@ -29,7 +29,7 @@ use Rattle.bit_parts.specs.declared.Reference.the-variants.{Whole, Part,
 use Rattle.operators.specs.Operators.{table, entryIn}
 use Rattle.operators.proofs.Rows.{row-small}
 use Rattle.operator_names.specs.OperatorNames.{operatorNames, findIn, operatorRow}
-use Rattle.tokens.specs.Tokens.{skip, next, slice, tokenEnd, operatorAt, operatorEnd}
+use Rattle.tokens.specs.Tokens.{angleOpen, angleClose, colon, skip, next, slice, tokenEnd, operatorAt, operatorEnd}
 use Rattle.bit_parts.specs.References.{secondBit, firstBit, spanAt, partOf, widthIn, registerAt, referenceAt}
 use Rattle.laws.proofs.Lists.{present}
 use Rattle.tokens.proofs.Tokens.{token-inside}
@@ -110,30 +110,30 @@ pub constant-past : (s : List ℕ) (at : ℕ) {x : Constant} → constantAt s at
 unfolding constantAt
 constant-past s at e =
     subst (ConstantPast s at) e
-    (by-case (ConstantPast s at) (eqb (getD s at 0) 39)
-    (λ t. marked-past Binary 2 1 binaryDigits s at (present s at 39 (eqb-true (getD s at 0) 39 t) (omega arith)))
+    (by-case (ConstantPast s at) (eqb (getD s at 0) binaryMark)
+    (λ t. marked-past Binary 2 1 binaryDigits s at (present s at binaryMark (eqb-true (getD s at 0) binaryMark t) (omega arith)))
     (λ t.
-    by-case (ConstantPast s at) (eqb (getD s at 0) 35)
-    (λ u. marked-past Octal 8 3 octalDigits s at (present s at 35 (eqb-true (getD s at 0) 35 u) (omega arith)))
+    by-case (ConstantPast s at) (eqb (getD s at 0) octalMark)
+    (λ u. marked-past Octal 8 3 octalDigits s at (present s at octalMark (eqb-true (getD s at 0) octalMark u) (omega arith)))
     (λ u. of-decimal s at (decimalAt s at) (number-past s at))))
 
 -- bit numbers, one of which was read from z on: the `>` behind it, a second one, and a first one with what follows
 module _ (s : List ℕ) (at z : ℕ) (h : at ≤ z) where
-  bracket-past : (q : ℕ) → Past s z q → eqb (next s q) 62 ≡ true → Past s at (skip s q + 1)
-  bracket-past q o t = omega (arith, onward Space s q, present s (skip s q) 62 (eqb-true (next s q) 62 t) (omega arith))
+  bracket-past : (q : ℕ) → Past s z q → eqb (next s q) angleClose ≡ true → Past s at (skip s q + 1)
+  bracket-past q o t = omega (arith, onward Space s q, present s (skip s q) angleClose (eqb-true (next s q) angleClose t) (omega arith))
 
   second-past : (a : ℕ) (n : Number) → NumberPast s z n → SpanPast s at (secondBit s a n)
   unfolding secondBit
-  second-past a (Plain b q) o = by-case (SpanPast s at) (eqb (next s q) 62) (λ t. bracket-past q o t) (λ t. tt)
+  second-past a (Plain b q) o = by-case (SpanPast s at) (eqb (next s q) angleClose) (λ t. bracket-past q o t) (λ t. tt)
   second-past a Unread o = tt
 
 first-past : (s : List ℕ) (at z : ℕ) → at ≤ z → (n : Number) → NumberPast s z n → SpanPast s at (firstBit s n)
 unfolding firstBit
 first-past s at z h (Plain a q) o =
-    by-case (SpanPast s at) (eqb (next s q) 62)
+    by-case (SpanPast s at) (eqb (next s q) angleClose)
     (λ t. bracket-past s at z h q o t)
     (λ t.
-    by-case (SpanPast s at) (eqb (next s q) 58)
+    by-case (SpanPast s at) (eqb (next s q) colon)
     (λ u.
     let y = skip s (skip s q + 1) in
     second-past s at y (omega (arith, onward Space s q, onward Space s (skip s q + 1))) a (decimalAt s y) (number-past s y))
@@ -176,7 +176,7 @@ module _ (rs : List Named) (s : List ℕ) (at : ℕ) where
       subst (ReferencePast s at) e
       (by-case (ReferencePast s at) (ltb named (length rs))
       (λ t.
-      by-case (ReferencePast s at) (eqb (next s end) 60)
+      by-case (ReferencePast s at) (eqb (next s end) angleOpen)
       (λ u.
       part-past s at named (widthIn rs named) (firstBit s (decimalAt s z))
       (first-past s at z (omega (arith, onward Space s end, onward Space s (skip s end + 1))) (decimalAt s z) (number-past s z)))
@@ -189,7 +189,7 @@ module _ (rs : List Named) (s : List ℕ) (at : ℕ) where
       by-case (Known rs) (ltb named (length rs))
       (λ t.
       let h = ltb-true named (length rs) t in
-      by-case (Known rs) (eqb (next s end) 60) (λ u. part-known rs named h (spanAt s (skip s end + 1))) (λ u. (h, refl)))
+      by-case (Known rs) (eqb (next s end) angleOpen) (λ u. part-known rs named h (spanAt s (skip s end + 1))) (λ u. (h, refl)))
       (λ t. tt)
 
   pub whole-known : (r w p : ℕ) → referenceAt rs s at ≡ Whole r w p → (r < length rs) × (w ≡ widthIn rs r)

@@ -1,4 +1,4 @@
--- References, by place in the field s: the name of a register, or a bit part of one. Of the signs, 60 is `<`, 62 `>` and 58 `:`.
+-- References, by place in the field s: the name of a register, or a bit part of one.
 -- Assumes nothing.
 use Prim.Native.Nat.{ℕ, _+_}
 use mathlib.Core.Bool.{true, false, _&&_}
@@ -11,7 +11,7 @@ use Rattle.constants.specs.Constants.{decimalAt}
 use Rattle.constants.specs.declared.Number.{Number}
 use Rattle.constants.specs.declared.Number.the-variants.{Plain, Unread}
 use Rattle.names.specs.Names.{Named, find}
-use Rattle.tokens.specs.Tokens.{skip, next, slice}
+use Rattle.tokens.specs.Tokens.{angleOpen, angleClose, colon, skip, next, slice}
 use Rattle.bit_parts.specs.declared.Span.{Span}
 use Rattle.bit_parts.specs.declared.Span.the-variants.{Bits, Bad}
 use Rattle.bit_parts.specs.declared.Reference.{Reference}
@@ -19,14 +19,14 @@ use Rattle.bit_parts.specs.declared.Reference.the-variants.{Whole, Part,
 
 -- "name<a> or name<a:b>": the bit numbers from the place after `<` on
 unfoldable pub secondBit : List ℕ → ℕ → Number → Span
-secondBit s a (Plain b p) = elim (eqb (next s p) 62) [ true ↦ Bits a b (skip s p + 1) | false ↦ Bad ]
+secondBit s a (Plain b p) = elim (eqb (next s p) angleClose) [ true ↦ Bits a b (skip s p + 1) | false ↦ Bad ]
 secondBit s a Unread = Bad
 
 unfoldable pub firstBit : List ℕ → Number → Span
 firstBit s (Plain a p) =
-    elim (eqb (next s p) 62) [
+    elim (eqb (next s p) angleClose) [
       | true ↦ Bits a a (skip s p + 1)
-      | false ↦ elim (eqb (next s p) 58) [ true ↦ secondBit s a (decimalAt s (skip s (skip s p + 1))) | false ↦ Bad ]
+      | false ↦ elim (eqb (next s p) colon) [ true ↦ secondBit s a (decimalAt s (skip s (skip s p + 1))) | false ↦ Bad ]
     ]
 firstBit s Unread = Bad
 
@@ -44,7 +44,7 @@ widthIn rs r = getD rs r (record { name = []; number = 0 }) .number
 
 -- register r of w bits, whose name ends at a place, or a bit part of it
 unfoldable pub registerAt : List ℕ → ℕ → ℕ → ℕ → Reference
-registerAt s r w end = elim (eqb (next s end) 60) [ true ↦ partOf r w (spanAt s (skip s end + 1)) | false ↦ Whole r w end ]
+registerAt s r w end = elim (eqb (next s end) angleOpen) [ true ↦ partOf r w (spanAt s (skip s end + 1)) | false ↦ Whole r w end ]
 
 -- the name at a place, "unknown names included"
 unfoldable pub referenceAt : List Named → List ℕ → ℕ → Reference

@@ -13,7 +13,7 @@ use Rattle.constants.specs.declared.Constant.the-variants.{Found, Missing}
 use Rattle.bit_parts.specs.declared.Reference.{Reference}
 use Rattle.bit_parts.specs.declared.Reference.the-variants.{Whole, Part, Unknown}
 use Rattle.operators.specs.Operators.{entryIn}
-use Rattle.tokens.specs.Tokens.{skip, next}
+use Rattle.tokens.specs.Tokens.{squareClose, skip, next}
 use Rattle.code.specs.Tree.{Expr, register, bitPart, constant, memory, complemented, rotated, binary, width}
 
 -- a tree and the place after it, or nothing within the rules
@@ -40,9 +40,9 @@ unfoldable pub notOf : Reading → Reading
 notOf (read t p) = read (complemented t) p
 notOf outside = outside
 
--- what stands in `M[..]` or `(..)`, by its closing byte; 93 is `]`
+-- what stands in `M[..]` or `(..)`, by its closing byte
 abbrev pub inside : ℕ → Expr → Expr
-inside close t = elim (eqb close 93) [ true ↦ memory t | false ↦ t ]
+inside close t = elim (eqb close squareClose) [ true ↦ memory t | false ↦ t ]
 
 unfoldable pub closed : List ℕ → ℕ → Reading → Reading
 closed s close (read t p) = elim (eqb (next s p) close) [ true ↦ read (inside close t) (skip s p + 1) | false ↦ outside ]

@@ -20,14 +20,14 @@ use Rattle.code.specs.declared.Part.the-variants.{Found, Fault}
 use Rattle.operators.specs.Operators.{table, rowOf, entryIn, widthBy}
 use Rattle.operators.proofs.Rows.{row-is}
 use Rattle.code.specs.Tree.{Expr, memory, complemented, rotated, binary, width, pieces}
-use Rattle.tokens.specs.Tokens.{skip, next}
+use Rattle.tokens.specs.Tokens.{squareClose, skip, next}
 use Rattle.code.specs.Readings.{Reading, read, outside, limited, closed, notOf, largestCount, turned, joined}
 use Rattle.code.specs.Code.{codeOf}
 use Rattle.code.specs.Met.{Held, Meets, Made, Behind, Combined, UnderNot}
 use Rattle.bit_parts.proofs.Onward.{Past}
 use Rattle.code.proofs.Parts.{met, behind, over, over-both, is-limited, too-wide}
 
--- brackets: the closing byte stands next or not, and it is the square one, 93, or the round one
+-- brackets: the closing byte stands next or not, and it is the square one or the round one
 module _ (s : List ℕ) (close : ℕ) (c : Cursor) (w : ℕ) (now : List ℕ) where
   abbrev shut : Bool
   shut = eqb (next s (c .place)) close
@@ -46,7 +46,7 @@ module _ (s : List ℕ) (close : ℕ) (c : Cursor) (w : ℕ) (now : List ℕ) wh
   unfolding closed
   unclosed-is t p e f = ap (λ (q : ℕ). closed s close (read t q)) (sym e) ∙ rw (f, closed)
 
-  closed-is : (t : Expr) (p : ℕ) (b : Bool) → c .place ≡ p → shut ≡ true → eqb close 93 ≡ b
+  closed-is : (t : Expr) (p : ℕ) (b : Bool) → c .place ≡ p → shut ≡ true → eqb close squareClose ≡ b
       → closed s close (read t p) ≡ read (elim b [ true ↦ memory t | false ↦ t ]) end
   unfolding closed
   closed-is t p b e f g = ap (λ (q : ℕ). closed s close (read t q)) (sym e) ∙ rw (f, closed) (ap (λ (z : Bool). read (elim z [ true ↦ memory t | false ↦ t ]) end) g)
@@ -56,7 +56,7 @@ module _ (s : List ℕ) (close : ℕ) (c : Cursor) (w : ℕ) (now : List ℕ) wh
   open-meets after f (read t p) from before h = met (closed s close (read t p)) outside Fault from before after (unclosed-is t p (h .place-is) f) tt
   open-meets after f outside from before h = absurd h
 
-  square-meets : shut ≡ true → eqb close 93 ≡ true → (x : Reading) (from : Cursor) (before : List ℕ)
+  square-meets : shut ≡ true → eqb close squareClose ≡ true → (x : Reading) (from : Cursor) (before : List ℕ)
       → Meets x (Found c w) from before now → Meets (closed s close x) (Found (behind c end 1) wordBits) from before with-memory
   unfolding codeOf
   square-meets f g (read t p) from before h =
@@ -65,7 +65,7 @@ module _ (s : List ℕ) (close : ℕ) (c : Cursor) (w : ℕ) (now : List ℕ) wh
       (over t (memory t) p end (3 ∷ 0 ∷ 0 ∷ 0 ∷ []) 1 c w from before now refl refl refl h)
   square-meets f g outside from before h = absurd h
 
-  round-meets : shut ≡ true → eqb close 93 ≡ false → (x : Reading) (from : Cursor) (before : List ℕ)
+  round-meets : shut ≡ true → eqb close squareClose ≡ false → (x : Reading) (from : Cursor) (before : List ℕ)
       → Meets x (Found c w) from before now → Meets (closed s close x) (Found behind-bracket w) from before now
   round-meets f g (read t p) from before h =
       met (closed s close (read t p)) (read t end) (Found behind-bracket w) from before now
@@ -76,11 +76,11 @@ module _ (s : List ℕ) (close : ℕ) (c : Cursor) (w : ℕ) (now : List ℕ) wh
   pub left-open : (a b d : ℕ) (after : List ℕ) → shut ≡ false → Made (closed s close) s a b d c w Fault now after
   left-open a b d after f = record { meets = open-meets after f; grown = tt }
 
-  pub square : shut ≡ true → eqb close 93 ≡ true → skip s (c .place) < length s
+  pub square : shut ≡ true → eqb close squareClose ≡ true → skip s (c .place) < length s
       → Made (closed s close) s (c .place + 1) (c .words + 1) (c .pieces + 1) c w (Found (behind c end 1) wordBits) now with-memory
   square f g h = record { meets = square-meets f g; grown = omega (arith, onward Space s (c .place)) }
 
-  pub round : shut ≡ true → eqb close 93 ≡ false → skip s (c .place) < length s → w ≤ widest
+  pub round : shut ≡ true → eqb close squareClose ≡ false → skip s (c .place) < length s → w ≤ widest
       → Made (closed s close) s (c .place + 1) (c .words + 1) (c .pieces + 1) c w (Found behind-bracket w) now now
   round f g h l = record { meets = round-meets f g; grown = omega (arith, onward Space s (c .place)) }
 

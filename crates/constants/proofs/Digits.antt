@@ -14,7 +14,7 @@ use lib.Dec.{eqb, leb, ltb}
 use lib.ListN.{length, getD, List·getD-eq-default}
 use borrow.Author.Tests.{leb-true, ltb-true}
 use Rattle.characters.specs.Characters.{belongs, runEnd}
-use Rattle.constants.specs.Constants.{numberAt, shortestFrom, decimalAt, ofDecimal, constantAt}
+use Rattle.constants.specs.Constants.{binaryMark, octalMark, numberAt, shortestFrom, decimalAt, ofDecimal, constantAt}
 use Rattle.word.specs.Word.{fits}
 use Rattle.characters.specs.declared.Class.{Class}
 use Rattle.characters.specs.declared.Class.the-variants.{Binary, Octal}
@@ -107,6 +107,6 @@ module _ (s : List ℕ) (at : ℕ) (h : length s ≤ at) where
   unfolding constantAt ofDecimal
   no-constant =
       let z : getD s at 0 ≡ 0 = List·getD-eq-default s 0 h in
-      let no-quote : eqb (getD s at 0) 39 ≡ false = ap (λ (x : ℕ). eqb x 39) z in
-      let no-number-sign : eqb (getD s at 0) 35 ≡ false = ap (λ (x : ℕ). eqb x 35) z in
-      rw (no-quote, no-number-sign, constantAt) (ap ofDecimal no-decimal)
+      let no-binary : eqb (getD s at 0) binaryMark ≡ false = ap (λ (x : ℕ). eqb x binaryMark) z in
+      let no-octal : eqb (getD s at 0) octalMark ≡ false = ap (λ (x : ℕ). eqb x octalMark) z in
+      rw (no-binary, no-octal, constantAt) (ap ofDecimal no-decimal)

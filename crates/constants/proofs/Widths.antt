@@ -12,7 +12,7 @@ use lib.Pow.{pow-mono}
 use borrow.Author.Tests.{ltb-true, leb-true}
 use Rattle.word.specs.Word.{fits}
 use Rattle.characters.specs.Characters.{isDigit, belongs, runEnd}
-use Rattle.constants.specs.Constants.{numberAt, largest, isPlain, decimalAt, markedAt, shortestFrom, shortest, ofDecimal, constantAt, binaryDigits, octalDigits}
+use Rattle.constants.specs.Constants.{binaryMark, octalMark, numberAt, largest, isPlain, decimalAt, markedAt, shortestFrom, shortest, ofDecimal, constantAt, binaryDigits, octalDigits}
 use Rattle.characters.specs.declared.Class.{Class}
 use Rattle.characters.specs.declared.Class.the-variants.{Word, Binary, Octal, Decimal}
 use Rattle.constants.specs.declared.Number.{Number}
@@ -81,9 +81,9 @@ decimal-fits s at =
 pub constant-fits : (s : List ℕ) (at : ℕ) → Fitting (constantAt s at)
 unfolding constantAt
 constant-fits s at =
-    by-case Fitting (eqb (getD s at 0) 39)
+    by-case Fitting (eqb (getD s at 0) binaryMark)
     (λ t. marked-fits Binary 1 binaryDigits (omega arith) binary-small s (at + 1))
     (λ t.
-    by-case Fitting (eqb (getD s at 0) 35)
+    by-case Fitting (eqb (getD s at 0) octalMark)
     (λ u. marked-fits Octal 3 octalDigits (omega arith) octal-small s (at + 1))
     (λ u. decimal-fits s at))

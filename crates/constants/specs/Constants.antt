@@ -20,6 +20,13 @@ unfoldable pub numberAt : ℕ → List ℕ → ℕ → ℕ → ℕ → ℕ
 numberAt base s at zero v = v
 numberAt base s at (suc n) v = numberAt base s (at + 1) n (v * base + getD s at 0 % 16)
 
+-- the marks `'` and `#`
+abbrev pub binaryMark : ℕ
+binaryMark = 39
+
+abbrev pub octalMark : ℕ
+octalMark = 35
+
 -- the limits that the sentence above names; a decimal up to 32767 has at most 5 digits
 abbrev pub binaryDigits : ℕ
 binaryDigits = 16
@@ -71,11 +78,11 @@ unfoldable pub ofDecimal : Number → Constant
 ofDecimal (Plain v end) = Found v (shortest v + 1) end
 ofDecimal Unread = Missing
 
--- the constant at a place: its value, its width and the place after it; 39 is `'`, 35 is `#`
+-- the constant at a place: its value, its width and the place after it
 unfoldable pub constantAt : List ℕ → ℕ → Constant
 constantAt s at =
-    elim (eqb (getD s at 0) 39) [
+    elim (eqb (getD s at 0) binaryMark) [
       | true ↦ markedAt Binary 2 1 binaryDigits s (at + 1)
       | false ↦
-          elim (eqb (getD s at 0) 35) [ true ↦ markedAt Octal 8 3 octalDigits s (at + 1) | false ↦ ofDecimal (decimalAt s at) ]
+          elim (eqb (getD s at 0) octalMark) [ true ↦ markedAt Octal 8 3 octalDigits s (at + 1) | false ↦ ofDecimal (decimalAt s at) ]
     ]

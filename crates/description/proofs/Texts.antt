@@ -207,28 +207,16 @@ tells-as text x y a code₀ code₁ table₀ table₁ e k = subst (λ (z : Answe
 -- what a caller finds of a text that is accepted, and of one that is turned down, after which the tables are emptied
 pub answers-accepted : (text : List ℕ) (x : Answer) (a : reader.Answer) (code₀ code₁ table₀ table₁ : List ℕ) → a .verdict ≡ verdict.Accepted
     → Tells text x a code₀ code₁ table₀ table₁ → Answers text x a code₀ code₁ table₀ table₁
-answers-accepted text x a code₀ code₁ table₀ table₁ e t =
-    record {
-      rows = t .rows;
-      is = t .is;
-      rows-are = t .rows-are;
-      code-is = t .code-is;
-      table-is = t .table-is;
-      refused = λ f n k. not-both (a .verdict) k e;
-    }
+answers-accepted text x a code₀ code₁ table₀ table₁ e t = record { tells = t; refused = λ f n k. not-both (a .verdict) k e }
 
 pub answers-refused : (text : List ℕ) (x : Answer) (f : Fault) (n : ℕ) (a r : reader.Answer) (code₀ code₁ code₂ table₀ table₁ table₂ : List ℕ)
     → a .verdict ≡ verdict.Refused f n → Tells text x a code₀ code₁ table₀ table₁ → r ≡ down f n → code₂ ≡ replicate (4 * capacity) 0
     → table₂ ≡ replicate (rowCells * mostRows) 0 → Answers text x r code₀ code₂ table₀ table₂
 answers-refused text x f n a r code₀ code₁ code₂ table₀ table₁ table₂ e t is no-code no-rows =
-    let told = tells-refused text x f n r code₀ code₂ table₀ table₂ is
-    (t .is ∙ ap (λ (v : Verdict). answerBy v (record { registers = entries text (a .registers); rows = t .rows })) e) in
     record {
-      rows = told .rows;
-      is = told .is;
-      rows-are = told .rows-are;
-      code-is = told .code-is;
-      table-is = told .table-is;
+      tells =
+          tells-refused text x f n r code₀ code₂ table₀ table₂ is
+          (t .is ∙ ap (λ (v : Verdict). answerBy v (record { registers = entries text (a .registers); rows = t .rows })) e);
       refused = λ g k q. record {
         is = is ∙ ap (λ (v : Verdict). record { registers = none; rows = 0; verdict = v }) (sym (ap (λ (z : reader.Answer). z .verdict) is) ∙ q);
         code-is = no-code;

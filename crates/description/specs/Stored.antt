@@ -51,9 +51,5 @@ pub record Emptied (f : Fault) (n : ℕ) (r : reader.Answer) (code₁ table₁ :
 
 -- the answer to a text, and every place of the tables
 pub record Answers (text : List ℕ) (x : Answer) (r : reader.Answer) (code₀ code₁ table₀ table₁ : List ℕ) : Type 0 where
-  pub rows : List Row
-  pub is : x ≡ answerBy (r .verdict) (record { registers = entries text (r .registers); rows = rows })
-  pub rows-are : r .verdict ≡ Accepted → r .rows ≡ length rows
-  pub code-is : r .verdict ≡ Accepted → code₁ ≡ sets code₀ 0 (code rows)
-  pub table-is : r .verdict ≡ Accepted → table₁ ≡ sets table₀ 0 (cells 0 rows)
+  pub tells : Tells text x r code₀ code₁ table₀ table₁
   pub refused : (f : Fault) (n : ℕ) → r .verdict ≡ verdict.Refused f n → Emptied f n r code₁ table₁

@@ -72,10 +72,10 @@ state-ext v w e values memory budget =
 -- a text, what the reader answers, and the tables that it leaves
 module _ (text : List ℕ) (r : reader.Answer) {code₀ code table₀ table : List ℕ} (answers : Answers text (readText text) r code₀ code table₀ table) where
   abbrev described : Description
-  described = record { registers = entries text (r .registers); rows = answers .rows }
+  described = record { registers = entries text (r .registers); rows = answers .tells .rows }
 
   read-is : {v : verdict.Verdict} → r .verdict ≡ v → readText text ≡ answerBy v described
-  read-is e = answers .is ∙ ap (λ (v : verdict.Verdict). answerBy v described) e
+  read-is e = answers .tells .is ∙ ap (λ (v : verdict.Verdict). answerBy v described) e
 
   pub text-refused : (registers memory : List ℕ) (budget : ℕ) (list : List ℕ) (f : Fault) (n : ℕ) → r .verdict ≡ Refused f n
       → evaluate text registers memory budget list ≡ refused (numberOf f) n registers memory list
@@ -159,7 +159,7 @@ module _ (text : List ℕ) (r : reader.Answer) {code₀ code table₀ table : Li
         -- the rows are within their limit, memory has its words, and the caller's list has room
         pub run-ready : (r .rows ≤ mostRows) × ((length memory ≡ memoryWords) × (mostRows ≤ length list))
         run-ready =
-            (omega (arith, answers .rows-are told, formed .few-rows), (sound .0 .size, row-list-long (length list) (outer .1)))
+            (omega (arith, answers .tells .rows-are told, formed .few-rows), (sound .0 .size, row-list-long (length list) (outer .1)))
 
         fits-registers : length registers ≡ registerPlaces → fitting.Fit (described .registers) start
         fits-registers places =
@@ -170,7 +170,7 @@ module _ (text : List ℕ) (r : reader.Answer) {code₀ code table₀ table : Li
             → finished (coursing code table (r .rows) place budget start) list ≡ evaluate text registers memory budget list
         run-told places lc lt place p =
             ap (λ (x : Run). finished x list)
-            (tables-run described formed code₀ table₀ code table (r .rows) place (answers .rows-are told) lc lt (answers .code-is told) (answers .table-is told)
+            (tables-run described formed code₀ table₀ code table (r .rows) place (answers .tells .rows-are told) lc lt (answers .tells .code-is told) (answers .tells .table-is told)
             (run-read place p) budget start (fits-registers places))
             ∙ sym (evaluated e)
 

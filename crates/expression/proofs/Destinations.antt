@@ -14,7 +14,7 @@ use Rattle.characters.specs.declared.Class.the-variants as class
 use Rattle.bit_parts.specs.declared.Reference.{Reference}
 use Rattle.bit_parts.specs.declared.Reference.the-variants.{Whole, Part}
 use Rattle.operators.specs.Operators.{weakest}
-use Rattle.tokens.specs.Tokens.{skip, next, slice}
+use Rattle.tokens.specs.Tokens.{squareOpen, squareClose, memoryToken, skip, next, slice}
 use Rattle.tokens.proofs.Tokens.{at-mark, off-mark}
 use Rattle.bit_parts.specs.References.{referenceAt}
 use Rattle.code.specs.declared.Cursor.{Cursor}
@@ -23,7 +23,7 @@ use Rattle.expression.specs.declared.Place.{Place}
 use Rattle.expression.specs.declared.Place.the-variants.{Register, Bits, Word, Nowhere}
 use Rattle.code.specs.Tree.{Expr, pieces, mostPieces, Destination, toRegister, toPart, toMemory, nowhere}
 use Rattle.code.specs.Readings.{Reading, read, outside}
-use Rattle.grammar.specs.Grammar.{squareOpen, squareClose, memoryToken, level, fuel}
+use Rattle.grammar.specs.Grammar.{level, fuel}
 use Rattle.expression.specs.Expression.{trimmed, ofName, ofAddress, memoryAt, destination}
 use Rattle.code.specs.Met.{Held, Meets}
 use Rattle.expression.specs.Met.{Aims, Points, Addressed}

@@ -24,12 +24,12 @@ use Rattle.operators.specs.declared.Entry.{Entry}
 use Rattle.bit_parts.specs.declared.Reference.{Reference}
 use Rattle.bit_parts.specs.declared.Reference.the-variants.{Whole, Part, Unknown}
 use Rattle.operators.specs.Operators.{table, noEntry, rowOf, entryIn, weakest, strongest, rotations}
-use Rattle.tokens.specs.Tokens.{skip, next, slice, operatorAt, operatorEnd}
+use Rattle.tokens.specs.Tokens.{roundOpen, roundClose, squareOpen, squareClose, notToken, memoryToken, skip, next, slice, operatorAt, operatorEnd}
 use Rattle.bit_parts.specs.References.{referenceAt}
 use Rattle.bit_parts.proofs.Onward.{whole-known, bits-known}
 use Rattle.code.specs.Tree.{Expr, register, bitPart, constant, binary, width, pieces, mostPieces, toPart}
 use Rattle.code.specs.Readings.{Reading, read, outside, limited, ofReference, ofConstant, notOf, closed, largestCount, turned, joined}
-use Rattle.grammar.specs.Grammar.{roundOpen, roundClose, squareOpen, squareClose, notToken, memoryToken, deepest, level, more, operation, operand, worded, negated, enclosed, fuel}
+use Rattle.grammar.specs.Grammar.{deepest, level, more, operation, operand, worded, negated, enclosed, fuel}
 use Rattle.expression.specs.Expression.{trimmed, whole, expression, ofName, ofAddress, memoryAt, destination}
 use Rattle.code.specs.Formed.{isOf, Formed, Accepted, Reads, FormedDestination}
 use Rattle.operators.proofs.Rows.{row-is, no-row}

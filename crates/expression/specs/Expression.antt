@@ -12,11 +12,11 @@ use Rattle.characters.specs.declared.Class.the-variants.{Word}
 use Rattle.bit_parts.specs.declared.Reference.{Reference}
 use Rattle.bit_parts.specs.declared.Reference.the-variants.{Whole, Part, Unknown}
 use Rattle.operators.specs.Operators.{weakest}
-use Rattle.tokens.specs.Tokens.{skip, next, slice}
+use Rattle.tokens.specs.Tokens.{squareOpen, squareClose, memoryToken, skip, next, slice}
 use Rattle.bit_parts.specs.References.{referenceAt}
 use Rattle.code.specs.Tree.{pieces, mostPieces, Destination, toRegister, toPart, toMemory, nowhere}
 use Rattle.code.specs.Readings.{Reading, read, outside}
-use Rattle.grammar.specs.Grammar.{squareOpen, squareClose, memoryToken, level, fuel}
+use Rattle.grammar.specs.Grammar.{level, fuel}
 
 -- "not at its ends"
 abbrev pub trimmed : List ℕ → Bool

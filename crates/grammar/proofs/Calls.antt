@@ -18,11 +18,11 @@ use Rattle.code.specs.declared.Part.the-variants.{Found, Fault}
 use Rattle.operators.specs.declared.Entry.{Entry}
 use Rattle.operators.specs.Operators.{entryIn, weakest, strongest, rotations}
 use Rattle.code.specs.Tree.{Expr}
-use Rattle.tokens.specs.Tokens.{skip, next, slice, operatorAt, operatorEnd}
+use Rattle.tokens.specs.Tokens.{roundOpen, roundClose, squareOpen, squareClose, notToken, memoryToken, skip, next, slice, operatorAt, operatorEnd}
 use Rattle.tokens.proofs.Tokens.{at-mark, off-mark}
 use Rattle.bit_parts.specs.References.{referenceAt}
 use Rattle.code.specs.Readings.{Reading, read, outside, ofConstant, ofReference, notOf, closed, turned, joined}
-use Rattle.grammar.specs.Grammar.{roundOpen, roundClose, squareOpen, squareClose, notToken, memoryToken, deepest, level, more, operation, operand, worded, negated, enclosed}
+use Rattle.grammar.specs.Grammar.{deepest, level, more, operation, operand, worded, negated, enclosed}
 use Rattle.code.specs.Met.{Held, Meets, Taken, Grown, Behind, OneMore}
 use Rattle.grammar.specs.Met.{Answer}
 use Rattle.code.proofs.Parts.{met}

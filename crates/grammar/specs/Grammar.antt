@@ -4,7 +4,7 @@
 -- Assumes nothing.
 use Prim.Native.Nat.{ℕ, zero, suc, _+_, _*_}
 use mathlib.Core.Bool.{true, false}
-use mathlib.Core.List.{List, [], _∷_}
+use mathlib.Core.List.{List}
 use lib.Dec.{eqb, ltb}
 use lib.ListN.{length}
 use Rattle.characters.specs.Characters.{isLetter, runEnd, same}
@@ -12,29 +12,10 @@ use Rattle.constants.specs.Constants.{decimalAt, constantAt}
 use Rattle.names.specs.Names.{Named}
 use Rattle.characters.specs.declared.Class.the-variants.{Word}
 use Rattle.operators.specs.Operators.{entryIn, weakest, strongest, rotations}
-use Rattle.tokens.specs.Tokens.{skip, next, slice, operatorAt, operatorEnd}
+use Rattle.tokens.specs.Tokens.{roundOpen, roundClose, squareOpen, squareClose, notToken, memoryToken, skip, next, slice, operatorAt, operatorEnd}
 use Rattle.bit_parts.specs.References.{referenceAt}
 use Rattle.code.specs.Tree.{Expr}
 use Rattle.code.specs.Readings.{Reading, read, outside, ofReference, ofConstant, notOf, closed, turned, joined}
-
--- the bytes `(`, `)`, `[` and `]`, and the tokens `Not` and `M`
-abbrev pub roundOpen : ℕ
-roundOpen = 40
-
-abbrev pub roundClose : ℕ
-roundClose = 41
-
-abbrev pub squareOpen : ℕ
-squareOpen = 91
-
-abbrev pub squareClose : ℕ
-squareClose = 93
-
-abbrev pub notToken : List ℕ
-notToken = 78 ∷ 111 ∷ 116 ∷ []
-
-abbrev pub memoryToken : List ℕ
-memoryToken = 77 ∷ []
 
 -- "Open brackets, parentheses and Nots nest to 8"
 abbrev pub deepest : ℕ

@@ -26,7 +26,7 @@ run-halted zero done s e = refl
 run-halted (suc left) done s e = case-false (on (s .run)) (runFrom left (suc done) (step s)) (ended done s) e
 
 -- RUN is 1 and a step is left
-pub run-step : (left done : ℕ) (s : State) → on (s .run) ≡ true → runFrom (suc left) done s ≡ runFrom left (suc done) (step s)
+run-step : (left done : ℕ) (s : State) → on (s .run) ≡ true → runFrom (suc left) done s ≡ runFrom left (suc done) (step s)
 unfolding runFrom
 run-step left done s e = case-true (on (s .run)) (runFrom left (suc done) (step s)) (ended done s) e
 

@@ -28,7 +28,7 @@ pub firstAddress-lt : (i last : ℕ) → firstAddress i last < 2 ^ wordBits
 unfolding firstAddress
 firstAddress-lt i last = let h = page-lt i last in omega arith
 
-pub indexed-acceptable : (a : ℕ) {memory : List ℕ} → Acceptable memory → Acceptable (indexed a memory)
+indexed-acceptable : (a : ℕ) {memory : List ℕ} → Acceptable memory → Acceptable (indexed a memory)
 unfolding indexed
 indexed-acceptable a {memory} m =
     pick-either Acceptable (eqb (a / 8) 1) (store-acceptable a (next-lt (getD memory a 0)) m) m

@@ -3,11 +3,40 @@
 -- Assumes nothing.
 use Prim.Native.Nat.{ℕ, _+_, _-_}
 use mathlib.Core.Bool.{true, false}
-use mathlib.Core.List.{List}
+use mathlib.Core.List.{List, [], _∷_}
 use lib.ListN.{getD, take, drop}
 use Rattle.characters.specs.Characters.{isWord, runEnd}
 use Rattle.characters.specs.declared.Class.the-variants.{Space, Word}
 use Rattle.operator_names.specs.OperatorNames.{operatorRow}
+
+-- the signs `(`, `)`, `[`, `]`, `<`, `>` and `:`
+abbrev pub roundOpen : ℕ
+roundOpen = 40
+
+abbrev pub roundClose : ℕ
+roundClose = 41
+
+abbrev pub squareOpen : ℕ
+squareOpen = 91
+
+abbrev pub squareClose : ℕ
+squareClose = 93
+
+abbrev pub angleOpen : ℕ
+angleOpen = 60
+
+abbrev pub angleClose : ℕ
+angleClose = 62
+
+abbrev pub colon : ℕ
+colon = 58
+
+-- the words `Not` and `M`
+abbrev pub notToken : List ℕ
+notToken = 78 ∷ 111 ∷ 116 ∷ []
+
+abbrev pub memoryToken : List ℕ
+memoryToken = 77 ∷ []
 
 -- the place of the next token
 abbrev pub skip : List ℕ → ℕ → ℕ

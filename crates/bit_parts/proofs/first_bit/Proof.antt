@@ -4,7 +4,7 @@ use Prim.Native.Nat.{ℕ, _+_}
 use native.Mathlib.Omega.{arith}
 use Rattle.laws.proofs.Lists.{present}
 use Rattle.tokens.proofs.Tokens.{at-mark, off-mark}
-use Rattle.tokens.specs.Tokens.{skip}
+use Rattle.tokens.specs.Tokens.{angleClose, colon, skip}
 use Rattle.bit_parts.specs.References.{firstBit, secondBit}
 use Rattle.constants.specs.Constants.{decimalAt}
 use borrow.Author.Needs.{needs}
@@ -23,7 +23,7 @@ byte-requires c κs = search needs
 add-t9 : tie.Need-add-t9
 add-t9 c =
     let s = c .before .before .before .before .before .before .before .args .s .now in
-    omega (arith, present s (c .before .before .skip-spaces .result) 62 (sym (c .before .byte .ensures) ∙ c .if1 .taken) (omega arith))
+    omega (arith, present s (c .before .before .skip-spaces .result) angleClose (sym (c .before .byte .ensures) ∙ c .if1 .taken) (omega arith))
 
 returns : tie.Need-returns
 unfolding firstBit
@@ -32,13 +32,13 @@ returns c =
     let first = c .before .before .before .before .first .given in
     let end = c .before .before .skip-spaces in
     let mark = c .before .byte in
-    let t = at-mark s (first .0 .1 .0) (end .result) (mark .result) 62 (end .ensures) (mark .ensures) (c .if1 .taken) in
+    let t = at-mark s (first .0 .1 .0) (end .result) (mark .result) angleClose (end .ensures) (mark .ensures) (c .if1 .taken) in
     rw (first .1, end .ensures, t, firstBit)
 
 add-skip-spaces : tie.Need-add-skip-spaces
 add-skip-spaces c =
     let s = c .before .before .before .before .before .before .before .before .args .s .now in
-    omega (arith, present s (c .before .before .before .skip-spaces .result) 58 (sym (c .before .before .byte .ensures) ∙ c .if2 .taken) (omega arith))
+    omega (arith, present s (c .before .before .before .skip-spaces .result) colon (sym (c .before .before .byte .ensures) ∙ c .if2 .taken) (omega arith))
 
 skip-spaces-requires-2 : tie.Need-skip-spaces-requires-2
 skip-spaces-requires-2 c κs = search needs
@@ -56,8 +56,8 @@ returns-2 c =
     let first = c .before .before .before .before .before .before .before .before .first .given in
     let end = c .before .before .before .before .before .before .skip-spaces in
     let mark = c .before .before .before .before .before .byte in
-    let t = off-mark s (first .0 .1 .0) (end .result) (mark .result) 62 (end .ensures) (mark .ensures) (c .before .before .before .before .if1 .left) in
-    let u = at-mark s (first .0 .1 .0) (end .result) (mark .result) 58 (end .ensures) (mark .ensures) (c .before .before .before .if2 .taken) in
+    let t = off-mark s (first .0 .1 .0) (end .result) (mark .result) angleClose (end .ensures) (mark .ensures) (c .before .before .before .before .if1 .left) in
+    let u = at-mark s (first .0 .1 .0) (end .result) (mark .result) colon (end .ensures) (mark .ensures) (c .before .before .before .if2 .taken) in
     c .second-bit .ensures
     ∙ ap (secondBit s (first .0 .0)) (c .before .decimal-at .ensures ∙ ap (decimalAt s) (c .before .before .skip-spaces2 .ensures ∙ ap (λ (k : ℕ). skip s (k + 1)) (end .ensures)))
     ∙ sym (rw (first .1, t, u, firstBit))
@@ -72,8 +72,8 @@ returns-3 c =
     let first = c .before .before .before .before .before .first .given in
     let end = c .before .before .before .skip-spaces in
     let mark = c .before .before .byte in
-    let t = off-mark s (first .0 .1 .0) (end .result) (mark .result) 62 (end .ensures) (mark .ensures) (c .before .if1 .left) in
-    let u = off-mark s (first .0 .1 .0) (end .result) (mark .result) 58 (end .ensures) (mark .ensures) (c .if2 .left) in
+    let t = off-mark s (first .0 .1 .0) (end .result) (mark .result) angleClose (end .ensures) (mark .ensures) (c .before .if1 .left) in
+    let u = off-mark s (first .0 .1 .0) (end .result) (mark .result) colon (end .ensures) (mark .ensures) (c .if2 .left) in
     rw (first .1, t, u, firstBit)
 
 returns-4 : tie.Need-returns-4

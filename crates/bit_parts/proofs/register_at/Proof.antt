@@ -2,6 +2,7 @@
 use mathlib.Core.Path.{sym, ap, _∙_}
 use Prim.Native.Nat.{ℕ, _+_}
 use native.Mathlib.Omega.{arith}
+use Rattle.tokens.specs.Tokens.{angleOpen}
 use Rattle.laws.proofs.Lists.{present}
 use Rattle.tokens.proofs.Tokens.{at-mark, off-mark}
 use Rattle.bit_parts.specs.References.{partOf, spanAt, registerAt}
@@ -18,7 +19,7 @@ byte-requires c κs = search needs
 add-span-at : tie.Need-add-span-at
 add-span-at c =
     let s = c .before .before .before .before .args .s .now in
-    omega (arith, present s (c .before .before .skip-spaces .result) 60 (sym (c .before .byte .ensures) ∙ c .if1 .taken) (omega arith))
+    omega (arith, present s (c .before .before .skip-spaces .result) angleOpen (sym (c .before .byte .ensures) ∙ c .if1 .taken) (omega arith))
 
 span-at-requires : tie.Need-span-at-requires
 span-at-requires c κs = search needs
@@ -32,7 +33,7 @@ returns c =
     let a = c .before .before .before .before .before .before .args in
     let mark = c .before .before .before .before .skip-spaces in
     let byte = c .before .before .before .byte in
-    let t = at-mark (a .s .now) (a .end) (mark .result) (byte .result) 60 (mark .ensures) (byte .ensures) (c .before .before .if1 .taken) in
+    let t = at-mark (a .s .now) (a .end) (mark .result) (byte .result) angleOpen (mark .ensures) (byte .ensures) (c .before .before .if1 .taken) in
     c .part-of .ensures
     ∙ ap (partOf (a .register) (a .width)) (c .before .span-at .ensures ∙ ap (λ (k : ℕ). spanAt (a .s .now) (k + 1)) (mark .ensures))
     ∙ sym (rw (t, registerAt))
@@ -43,7 +44,7 @@ returns-2 c =
     let a = c .before .before .before .before .args in
     let mark = c .before .before .skip-spaces in
     let byte = c .before .byte in
-    let t = off-mark (a .s .now) (a .end) (mark .result) (byte .result) 60 (mark .ensures) (byte .ensures) (c .if1 .left) in
+    let t = off-mark (a .s .now) (a .end) (mark .result) (byte .result) angleOpen (mark .ensures) (byte .ensures) (c .if1 .left) in
     rw (t, registerAt)
 
 pub register-at-spec : {M : Type 1} → statement M

@@ -1,6 +1,7 @@
 -- `bit_parts::second_bit` is its definition, case by case.
 use mathlib.Core.Path.{sym, _∙_}
 use native.Mathlib.Omega.{arith}
+use Rattle.tokens.specs.Tokens.{angleClose}
 use Rattle.laws.proofs.Lists.{present}
 use Rattle.tokens.proofs.Tokens.{at-mark, off-mark}
 use Rattle.bit_parts.specs.References.{secondBit}
@@ -20,7 +21,7 @@ byte-requires c κs = search needs
 add-t11 : tie.Need-add-t11
 add-t11 c =
     let s = c .before .before .before .before .before .before .before .args .s .now in
-    omega (arith, present s (c .before .before .skip-spaces .result) 62 (sym (c .before .byte .ensures) ∙ c .if1 .taken) (omega arith))
+    omega (arith, present s (c .before .before .skip-spaces .result) angleClose (sym (c .before .byte .ensures) ∙ c .if1 .taken) (omega arith))
 
 enum-told : tie.Need-enum-told
 enum-told c = search needs
@@ -32,7 +33,7 @@ returns c =
     let last = c .before .before .before .before .last .given in
     let end = c .before .before .skip-spaces in
     let mark = c .before .byte in
-    let t = at-mark s (last .0 .1 .0) (end .result) (mark .result) 62 (end .ensures) (mark .ensures) (c .if1 .taken) in
+    let t = at-mark s (last .0 .1 .0) (end .result) (mark .result) angleClose (end .ensures) (mark .ensures) (c .if1 .taken) in
     rw (last .1, end .ensures, t, secondBit)
 
 returns-2 : tie.Need-returns-2
@@ -42,7 +43,7 @@ returns-2 c =
     let last = c .before .before .before .before .last .given in
     let end = c .before .before .skip-spaces in
     let mark = c .before .byte in
-    let t = off-mark s (last .0 .1 .0) (end .result) (mark .result) 62 (end .ensures) (mark .ensures) (c .if1 .left) in
+    let t = off-mark s (last .0 .1 .0) (end .result) (mark .result) angleClose (end .ensures) (mark .ensures) (c .if1 .left) in
     rw (last .1, t, secondBit)
 
 returns-3 : tie.Need-returns-3

@@ -3,6 +3,7 @@ use mathlib.Core.Path.{sym, _∙_}
 use Prim.Native.Nat.{_+_}
 use native.Mathlib.Omega.{arith}
 use borrow.Author.Tests.{eq-eqb, ne-eqb}
+use Rattle.tokens.specs.Tokens.{squareClose}
 use Rattle.laws.proofs.Lists.{present}
 use Rattle.tokens.proofs.Tokens.{at-mark, off-mark}
 use Rattle.compounds.proofs.Making.{left-open, square, round}
@@ -55,7 +56,7 @@ returns-2 c =
     rw (c .one-more .ensures, c .before .emit .ensures, end .ensures)
     (square (a .s .now) (a .close) (a .c) (a .width) (a .code .now)
     (at-mark (a .s .now) (a .c .place) (end .result) (byte .result) (a .close) (end .ensures) (byte .ensures) same)
-    (eq-eqb (a .close) 93 (c .before .before .before .if2 .taken))
+    (eq-eqb (a .close) squareClose (c .before .before .before .if2 .taken))
     (rw (end .ensures) at (present (a .s .now) (end .result) (a .close) (sym (byte .ensures) ∙ same) (entry .pre .1 .1 .1 .1))))
 
 returns-3 : tie.Need-returns-3
@@ -68,7 +69,7 @@ returns-3 c =
     rw (end .ensures)
     (round (a .s .now) (a .close) (a .c) (a .width) (a .code .now)
     (at-mark (a .s .now) (a .c .place) (end .result) (byte .result) (a .close) (end .ensures) (byte .ensures) same)
-    (ne-eqb (a .close) 93 (c .if2 .left))
+    (ne-eqb (a .close) squareClose (c .if2 .left))
     (rw (end .ensures) at (present (a .s .now) (end .result) (a .close) (sym (byte .ensures) ∙ same) (entry .pre .1 .1 .1 .1)))
     (entry .pre .1 .1 .1 .0))
 

@@ -2,7 +2,7 @@
 use mathlib.Core.Path.{sym, ap, _∙_}
 use lib.ListN.{getD}
 use borrow.Author.Tests.{eq-eqb, ne-eqb}
-use Rattle.constants.specs.Constants.{constantAt, ofDecimal}
+use Rattle.constants.specs.Constants.{binaryMark, octalMark, constantAt, ofDecimal}
 use Rattle.constants.proofs.Digits.{no-constant}
 use borrow.Author.Needs.{needs}
 use Rattle.constants.proofs.constant_at.Statement.{statement}
@@ -26,7 +26,7 @@ returns-2 : tie.Need-returns-2
 unfolding constantAt
 returns-2 c =
     let a = c .before .before .before .before .before .args in
-    c .binary-at .ensures ∙ sym (rw (eq-eqb (getD (a .s .now) (a .at) 0) 39 (c .before .if2 .taken), constantAt))
+    c .binary-at .ensures ∙ sym (rw (eq-eqb (getD (a .s .now) (a .at) 0) binaryMark (c .before .if2 .taken), constantAt))
 
 add-octal-at : tie.Need-add-octal-at
 add-octal-at c = search needs
@@ -39,7 +39,7 @@ unfolding constantAt
 returns-3 c =
     let a = c .before .before .before .before .before .before .args in
     let mark = getD (a .s .now) (a .at) 0 in
-    c .octal-at .ensures ∙ sym (rw (ne-eqb mark 39 (c .before .before .if2 .left), eq-eqb mark 35 (c .before .if3 .taken), constantAt))
+    c .octal-at .ensures ∙ sym (rw (ne-eqb mark binaryMark (c .before .before .if2 .left), eq-eqb mark octalMark (c .before .if3 .taken), constantAt))
 
 decimal-at-requires : tie.Need-decimal-at-requires
 decimal-at-requires c κs = search needs
@@ -54,7 +54,7 @@ returns-4 c =
     let mark = getD (a .s .now) (a .at) 0 in
     c .from-decimal .ensures
     ∙ ap ofDecimal (c .before .decimal-at .ensures)
-    ∙ sym (rw (ne-eqb mark 39 (c .before .before .before .if2 .left), ne-eqb mark 35 (c .before .before .if3 .left), constantAt))
+    ∙ sym (rw (ne-eqb mark binaryMark (c .before .before .before .if2 .left), ne-eqb mark octalMark (c .before .before .if3 .left), constantAt))
 
 pub constant-at-spec : {M : Type 1} → statement M
 constant-at-spec =

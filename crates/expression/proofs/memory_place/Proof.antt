@@ -5,7 +5,8 @@ use native.Mathlib.Omega.{arith}
 use Rattle.names.specs.Names.{entries}
 use Rattle.operators.specs.Operators.{weakest}
 use Rattle.laws.proofs.Lists.{present}
-use Rattle.grammar.specs.Grammar.{squareOpen, level, fuel}
+use Rattle.tokens.specs.Tokens.{squareOpen}
+use Rattle.grammar.specs.Grammar.{level, fuel}
 use Rattle.expression.specs.Expression.{ofAddress, memoryAt}
 use Rattle.expression.proofs.Destinations.{address-fault, aimed, opens, bare}
 use borrow.Author.Needs.{needs}

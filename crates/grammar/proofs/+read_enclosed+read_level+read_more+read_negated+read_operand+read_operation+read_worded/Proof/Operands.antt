@@ -7,7 +7,8 @@ use borrow.Author.Needs.{needs}
 use lib.ListN.{getD}
 use Rattle.names.specs.Names.{entries}
 use Rattle.bit_parts.specs.References.{referenceAt}
-use Rattle.grammar.specs.Grammar.{roundOpen, roundClose, squareOpen, squareClose, worded, negated, enclosed}
+use Rattle.tokens.specs.Tokens.{roundOpen, roundClose, squareOpen, squareClose}
+use Rattle.grammar.specs.Grammar.{worded, negated, enclosed}
 use Rattle.code.specs.Readings.{outside, ofConstant, ofReference}
 use Rattle.grammar.specs.Met.{calls}
 use Rattle.grammar.proofs.Calls.{answered, regrown, moved, operand-encloses, operand-worded, operand-constant, worded-not, worded-memory, worded-bare, worded-name}

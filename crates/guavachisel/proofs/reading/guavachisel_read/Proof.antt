@@ -20,12 +20,12 @@ fault-number-requires : tie.Need-fault-number-requires
 fault-number-requires c κs = search needs
 
 returns : tie.Need-returns
-returns c = sym (ap outcomeOf (rw (c .before .enum-told .given .1) at (c .before .before .before .read .ensures .is)))
+returns c = sym (ap outcomeOf (rw (c .before .enum-told .given .1) at (c .before .before .before .read .ensures .tells .is)))
 
 returns-2 : tie.Need-returns-2
 returns-2 c =
     ap (λ (n : ℕ). n ∷ c .before .before .before .verdict .given .0 .1 .0 ∷ []) (c .before .fault-number .ensures)
-    ∙ sym (ap outcomeOf (rw (c .before .before .before .verdict .given .1) at (c .before .before .before .before .before .read .ensures .is)))
+    ∙ sym (ap outcomeOf (rw (c .before .before .before .verdict .given .1) at (c .before .before .before .before .before .read .ensures .tells .is)))
 
 pub guavachisel-read-spec : {M : Type 1} → statement M
 guavachisel-read-spec =

@@ -3,8 +3,7 @@
 use mathlib.Core.List.{List}
 use mathlib.Core.Path.{_≡_, sym, ap, _∙_}
 use mathlib.Core.Bool.{Bool, true, false}
-use Prim.Native.Nat.{ℕ, _/_, _%_, _^_, _<_}
-use native.Mathlib.Nat.{div-one}
+use Prim.Native.Nat.{ℕ, _/_, _^_, _<_}
 use native.Mathlib.Omega.{arith}
 use lib.Dec.{eqb}
 use lib.ListN.{getD}
@@ -17,9 +16,8 @@ use Rattle.state.proofs.Accepted.{store-acceptable}
 use Rattle.machine.specs.Instruction.{ib, pb, pa}
 use Rattle.reference.specs.Address.{firstAddress, indexed, effective, afterIndexing, Addressed}
 
--- pa stands at the right end of the instruction
-pub pa-is : (i : ℕ) → pa i ≡ i % 2 ^ 7
-pa-is i = ap (λ (n : ℕ). n % 2 ^ 7) (div-one i)
+pub pa-lt : (i : ℕ) → pa i < 2 ^ 7
+pa-lt i = omega arith
 
 pub page-lt : (i last : ℕ) → choose (pb i) (bits wordBits 0 4 last) 0 < 2 ^ 5
 page-lt i last = choose-either (λ (n : ℕ). n < 2 ^ 5) (pb i) (omega arith) (omega arith)

@@ -6,7 +6,7 @@ ghost use Prim.Native.Nat.{_^_, _<_};
 ghost use Rattle.word.specs.Choice.{choose};
 ghost use Rattle.word.specs.Word.{wordBits, bits};
 ghost use Rattle.state.specs.Acceptable.{Acceptable};
-ghost use Rattle.machine.specs.Instruction.{ib, pb};
+ghost use Rattle.machine.specs.Instruction.{ib, pb, pa};
 ghost use Rattle.reference.specs.Address.{address, firstAddress, indexed, Addressed};
 
 // Bit 4, pb.
@@ -27,21 +27,28 @@ fn joined(page: PageNumber, within: PageAddress) -> u64
 }
 
 // The page of an instruction that was fetched from `last`: page 0, or the page of `last` itself.
-fn page(i: u64, last: u64) -> u64
-    ensures { λ r. ⌜ r ≡ choose (pb i) (bits wordBits 0 4 last) 0 ⌝ }
+fn page(i: u64, last: u64) -> PageNumber
+    ensures { λ r. ⌜ r .0 ≡ choose (pb i) (bits wordBits 0 4 last) 0 ⌝ }
 {
     if i / CURRENT % 2 != 0 {
-        last / 128 % 32
+        PageNumber(last / 128 % 32)
     } else {
-        0
+        PageNumber(0)
     }
+}
+
+// The word of its page that an instruction names.
+fn page_address(i: u64) -> PageAddress
+    ensures { λ r. ⌜ r .0 ≡ pa i ⌝ }
+{
+    PageAddress(i % 128)
 }
 
 // The address before any indirection, which an instruction with ib = 0 works on.
 pub fn first_address(i: u64, last: u64) -> u64
     ensures { λ r. ⌜ r ≡ firstAddress i last ⌝ }
 {
-    joined(PageNumber(page(i, last)), PageAddress(i % 128))
+    joined(page(i, last), page_address(i))
 }
 
 // Auto-indexing: the word at a first address from 0010 to 0017 is increased.

@@ -3,4 +3,3 @@ pub mod Complement
 pub mod Next
 pub mod Parts
 pub mod Rotation
-pub mod Small

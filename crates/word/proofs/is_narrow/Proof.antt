@@ -7,7 +7,7 @@ power-requires : tie.Need-power-requires
 power-requires c κs = search needs
 
 returns : tie.Need-returns
-returns c = rw (← c .power .ensures .is)
+returns c = rw (← c .power .ensures)
 
 pub is-narrow-spec : {M : Type 1} → statement M
 is-narrow-spec = tie.close (tie.spec power-requires returns)

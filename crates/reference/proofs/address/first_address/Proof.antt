@@ -1,9 +1,7 @@
 -- `address::first_address` joins the two parts that its definition joins.
-use mathlib.Core.Path.{sym, ap₂, _∙_}
-use native.Mathlib.Nat.{mod-lt}
-use lib.Dec.{lit<}
+use mathlib.Core.Path.{ap₂, _∙_}
 use Rattle.reference.specs.Address.{address, firstAddress}
-use Rattle.reference.proofs.Addresses.{page-lt, pa-is}
+use Rattle.reference.proofs.Addresses.{page-lt, pa-lt}
 use borrow.Author.Needs.{needs}
 use Rattle.reference.proofs.address.first_address.Statement.{statement}
 use Rattle.reference.proofs.address.first_address.Tie as tie
@@ -11,12 +9,16 @@ use Rattle.reference.proofs.address.first_address.Tie as tie
 page-requires : tie.Need-page-requires
 page-requires c κs = search needs
 
+page-address-requires : tie.Need-page-address-requires
+page-address-requires c κs = search needs
+
 joined-requires : tie.Need-joined-requires
-joined-requires c κs = (rw (c .page .ensures) (page-lt (c .before .args .i) (c .before .args .last)), mod-lt (c .before .args .i) (lit< tt))
+joined-requires c κs =
+    (rw (c .before .page .ensures) (page-lt (c .before .before .args .i) (c .before .before .args .last)), rw (c .page-address .ensures) (pa-lt (c .before .before .args .i)))
 
 returns : tie.Need-returns
 unfolding firstAddress
-returns c = c .joined .ensures ∙ ap₂ address (c .before .page .ensures) (sym (pa-is (c .before .before .args .i)))
+returns c = c .joined .ensures ∙ ap₂ address (c .before .before .page .ensures) (c .before .page-address .ensures)
 
 pub first-address-spec : {M : Type 1} → statement M
-first-address-spec = tie.close (tie.spec page-requires joined-requires returns)
+first-address-spec = tie.close (tie.spec page-requires page-address-requires joined-requires returns)

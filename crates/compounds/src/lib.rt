@@ -6,10 +6,12 @@ use code::WIDEST;
 use code::emit;
 use code::one_more;
 use constants::Number;
+use operators::NOT;
+ghost use mathlib.Core.Path.{_≡_};
 ghost use Prim.Native.Nat.{_+_, _≤_, _<_};
 ghost use lib.ListN.{length};
 ghost use Rattle.word.specs.Word.{widest};
-ghost use Rattle.operators.specs.Operators.{table};
+ghost use Rattle.operators.specs.Operators.{table, entryIn, rotations, widthBy};
 ghost use Rattle.constants.specs.Constants.{decimalAt};
 ghost use Rattle.tokens.specs.Tokens.{skip};
 ghost use Rattle.code.specs.Readings.{closed, turned, joined};
@@ -20,6 +22,16 @@ const WORD_BITS: u16 = 12;
 
 // "right side a decimal from 0 to 15"
 const LARGEST_COUNT: u16 = 15;
+
+// The width of an operator's value by its row; an operator that has no right side, or only a count there, is handed 0 for that.
+fn width_in(row: usize, left: u16, right: u16) -> u16
+    requires { ⌜ left ≤ widest ⌝ ∗ ⌜ right ≤ widest ⌝ }
+    ensures { λ r. ⌜ r ≡ widthBy (entryIn row .widths) left right ⌝ }
+{
+    let entry = operators::entry_in(row);
+    let kind = entry.widths;
+    operators::width_by(kind, left, right)
+}
 
 // What stands in brackets, once it is read: the closing byte, and for a memory word its own word.
 pub fn closed_part(
@@ -53,11 +65,12 @@ pub fn closed_part(
 
 // What was read, turned over.
 pub fn complemented_part(code: &mut [u16; CODE_PLACES], c: Cursor, width: u16) -> Part
-    requires { ⌜ c .words < capacity ⌝ ∗ ⌜ c .pieces < capacity ⌝ }
+    requires { ⌜ c .words < capacity ⌝ ∗ ⌜ c .pieces < capacity ⌝ ∗ ⌜ width ≤ widest ⌝ }
     ensures { λ r. ⌜ UnderNot c width r (now (code .entry)) (now (code .exit)) ⌝ }
 {
+    let whole = width_in(NOT, width, 0);
     emit(code, c.words, 4, width, 0, 0);
-    Part::Found(one_more(c, c.place), width)
+    Part::Found(one_more(c, c.place), whole)
 }
 
 // A rotation of what was read, by the count that stands at a place.
@@ -69,13 +82,14 @@ pub fn rotated_part(
     width: u16,
     at: usize,
 ) -> Part
-    requires { ⌜ Room (now s) c 0 ⌝ ∗ ⌜ row < length table ⌝ ∗ ⌜ width ≤ widest ⌝ ∗ ⌜ c .place < at ⌝ ∗ ⌜ at ≤ length (now s) ⌝ }
+    requires { ⌜ Room (now s) c 0 ⌝ ∗ ⌜ entryIn row .strength ≡ rotations ⌝ ∗ ⌜ width ≤ widest ⌝ ∗ ⌜ c .place < at ⌝ ∗ ⌜ at ≤ length (now s) ⌝ }
     ensures { λ r. ⌜ Behind 0 (λ f l p. turned row l (decimalAt (now (s .entry)) (skip (now (s .entry)) at))) (now (s .entry)) (at + 1) (c .words + 2) (c .pieces + 2)
         c width r (now (code .entry)) (now (code .exit)) ⌝ }
 {
     match constants::decimal_at(s, tokens::skip_spaces(s, at)) {
         Number::Plain { value, place } => {
             if value <= LARGEST_COUNT {
+                let whole = width_in(row, width, 0);
                 emit(code, c.words, 4 + row as u16, width, value, 0);
                 Part::Found(
                     Cursor {
@@ -83,7 +97,7 @@ pub fn rotated_part(
                         words: c.words + 1,
                         pieces: c.pieces + 2,
                     },
-                    width,
+                    whole,
                 )
             } else {
                 Part::Fault
@@ -105,9 +119,7 @@ pub fn joined_part(
     requires { ⌜ row < length table ⌝ ∗ ⌜ width ≤ widest ⌝ ∗ ⌜ other ≤ widest ⌝ ∗ ⌜ right .words < capacity ⌝ ∗ ⌜ right .pieces < capacity ⌝ }
     ensures { λ r. ⌜ Combined (joined row) left width right other r (now (code .entry)) (now (code .exit)) ⌝ }
 {
-    let entry = operators::entry_in(row);
-    let kind = entry.widths;
-    let both = operators::width_by(kind, width, other);
+    let both = width_in(row, width, other);
     if WIDEST < both {
         return Part::Fault;
     }

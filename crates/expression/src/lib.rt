@@ -4,8 +4,8 @@ use characters::Class;
 use code::CODE_PLACES;
 use code::Cursor;
 use code::Part;
-use grammar::WEAKEST;
 use names::Dictionary;
+use operators::OR;
 ghost use mathlib.Core.Path.{_≡_};
 ghost use Prim.Native.Nat.{_+_, _≤_};
 ghost use lib.ListN.{length};
@@ -76,7 +76,8 @@ pub fn read_expression(
             words: words,
             pieces: pieces,
         };
-        match grammar::read_level(text, d, s, code, 0, WEAKEST, start) {
+        let weakest = operators::entry_in(OR).strength;
+        match grammar::read_level(text, d, s, code, 0, weakest, start) {
             Part::Found(end, width) => whole_part(s, end, width, pieces),
             Part::Fault => Part::Fault,
         }
@@ -163,7 +164,8 @@ fn memory_place(
             words: words,
             pieces: pieces,
         };
-        match grammar::read_level(text, d, s, code, 0, WEAKEST, start) {
+        let weakest = operators::entry_in(OR).strength;
+        match grammar::read_level(text, d, s, code, 0, weakest, start) {
             Part::Found(close, _) => addressed_place(s, close, start),
             Part::Fault => Place::Nowhere,
         }

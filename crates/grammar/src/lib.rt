@@ -4,6 +4,9 @@ use code::CODE_PLACES;
 use code::Cursor;
 use code::Part;
 use names::Dictionary;
+use operators::NOT;
+use operators::OR;
+use operators::SLR;
 ghost use mathlib.Core.Path.{_≡_};
 ghost use mathlib.Core.Bool.{true};
 ghost use Prim.Native.Nat.{_+_, _-_, _≤_, _<_};
@@ -17,9 +20,6 @@ ghost use Rattle.code.specs.Readings.{read};
 ghost use Rattle.grammar.specs.Grammar.{level, more, operation, operand, worded, negated, enclosed};
 ghost use Rattle.code.specs.Met.{Room, Behind};
 ghost use Rattle.grammar.specs.Met.{Answer, calls};
-
-// The weakest strength, that of Or.
-pub const WEAKEST: u8 = 1;
 
 // "Open brackets, parentheses and Nots nest to 8."
 const DEEPEST: usize = 8;
@@ -39,7 +39,7 @@ pub fn read_level(
         (λ f. level f (entries (now (text .entry)) d) (now (s .entry)) depth strength (c .place))
         (now (s .entry)) (c .place + 1) (c .words + 1) (c .pieces + 1) r c (now (code .entry)) (now (code .exit)) ⌝ }
 {
-    let strongest = operators::entry_in(0).strength;
+    let strongest = operators::entry_in(NOT).strength;
     if strength == strongest {
         return read_operand(text, d, s, code, depth, c);
     }
@@ -94,7 +94,7 @@ fn read_operation(
 {
     let row = tokens::operator_at(s, left.place);
     let end = tokens::operator_end(s, left.place);
-    let rotations = operators::entry_in(2).strength;
+    let rotations = operators::entry_in(SLR).strength;
     if strength == rotations {
         return compounds::rotated_part(s, code, row, left, width, end);
     }
@@ -200,7 +200,7 @@ fn read_negated(
         (now (s .entry)) (c .place + 1) (c .words + 2) (c .pieces + 2) r c (now (code .entry)) (now (code .exit)) ⌝ }
 {
     if depth < DEEPEST {
-        let strongest = operators::entry_in(0).strength;
+        let strongest = operators::entry_in(NOT).strength;
         match read_level(text, d, s, code, depth + 1, strongest, c) {
             Part::Found(operand, width) => compounds::complemented_part(code, operand, width),
             Part::Fault => Part::Fault,
@@ -226,7 +226,8 @@ fn read_enclosed(
         (now (s .entry)) (c .place + 1) (c .words + 2) (c .pieces + 2) r c (now (code .entry)) (now (code .exit)) ⌝ }
 {
     if depth < DEEPEST {
-        match read_level(text, d, s, code, depth + 1, WEAKEST, c) {
+        let weakest = operators::entry_in(OR).strength;
+        match read_level(text, d, s, code, depth + 1, weakest, c) {
             Part::Found(inner, width) => compounds::closed_part(s, code, inner, width, close),
             Part::Fault => Part::Fault,
         }

@@ -1,4 +1,4 @@
--- The laws of the table's rows: an operator stands in its own row, and past the table there is none.
+-- The laws of the table's rows: an operator stands in its own row, past the table there is none, and what the rotations' width goes by.
 -- Assumes nothing.
 use mathlib.Core.Path.{_≡_, refl, ap}
 use Prim.Native.Nat.{ℕ, zero, suc, _≤_, _<_}
@@ -8,7 +8,7 @@ use lib.ListN.{length, List·getD-eq-default}
 use borrow.Author.Tests.{ltb-true, ltb-false}
 use Rattle.laws.proofs.Tests.{by-test}
 use Rattle.operators.specs.declared.Entry.{Entry}
-use Rattle.operators.specs.Operators.{table, rowOf, noEntry, entryIn}
+use Rattle.operators.specs.Operators.{table, rowOf, noEntry, entryIn, rotations, widthBy}
 
 -- a row's operator stands in that row
 pub row-is : (row : ℕ) → row < length table → rowOf (entryIn row .operator) ≡ row
@@ -33,3 +33,17 @@ row-small row k e h =
     by-test (ltb row (length table))
     (λ t. ltb-true row (length table) t)
     (λ t. absurd (omega (arith, ap (λ (x : Entry). x .strength) (no-row row (ltb-false row (length table) t)))))
+
+-- "rotation as the left .. side"
+pub rotation-width : (row l r : ℕ) → entryIn row .strength ≡ rotations → widthBy (entryIn row .widths) l r ≡ l
+rotation-width zero l r e = absurd (omega (arith, e))
+rotation-width (suc zero) l r e = absurd (omega (arith, e))
+rotation-width (suc (suc zero)) l r e = refl
+rotation-width (suc (suc (suc zero))) l r e = refl
+rotation-width (suc (suc (suc (suc zero)))) l r e = absurd (omega (arith, e))
+rotation-width (suc (suc (suc (suc (suc zero))))) l r e = absurd (omega (arith, e))
+rotation-width (suc (suc (suc (suc (suc (suc zero)))))) l r e = absurd (omega (arith, e))
+rotation-width (suc (suc (suc (suc (suc (suc (suc zero))))))) l r e = absurd (omega (arith, e))
+rotation-width (suc (suc (suc (suc (suc (suc (suc (suc zero)))))))) l r e = absurd (omega (arith, e))
+rotation-width (suc (suc (suc (suc (suc (suc (suc (suc (suc zero))))))))) l r e = absurd (omega (arith, e))
+rotation-width (suc (suc (suc (suc (suc (suc (suc (suc (suc (suc n)))))))))) l r e = absurd (omega (arith, e))

@@ -46,9 +46,9 @@ noEntry = record { operator = Or; strength = 0; widths = Wider }
 abbrev pub entryIn : ℕ → Entry
 entryIn i = getD table i noEntry
 
--- the weakest level and the strongest, Not's
+-- the weakest level, Or's, and the strongest, Not's
 abbrev pub weakest : ℕ
-weakest = 1
+weakest = entryIn (rowOf Or) .strength
 
 abbrev pub strongest : ℕ
 strongest = entryIn (rowOf Not) .strength

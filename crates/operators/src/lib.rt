@@ -37,12 +37,19 @@ pub struct Entry {
 
 pub const OPERATORS: usize = 10;
 
+// The rows by which the grammar knows its levels: Not's is the strongest, Slr's the rotations', Or's the weakest.
+pub const NOT: usize = 0;
+
+pub const SLR: usize = 2;
+
+pub const OR: usize = 9;
+
 // "The strengths of the operators are one fixed table."
 const TABLE: [Entry; OPERATORS] = [
     Entry {
         operator: Operator::Not,
         strength: 7,
-        widths: Widths::Left,
+        widths: Widths::Left, // of its only side
     },
     Entry {
         operator: Operator::Join,
@@ -52,12 +59,12 @@ const TABLE: [Entry; OPERATORS] = [
     Entry {
         operator: Operator::RotateLeft,
         strength: 5,
-        widths: Widths::Left,
+        widths: Widths::Left, // of what Slr turns
     },
     Entry {
         operator: Operator::RotateRight,
         strength: 5,
-        widths: Widths::Left,
+        widths: Widths::Left, // of what Srr turns
     },
     Entry {
         operator: Operator::Add,

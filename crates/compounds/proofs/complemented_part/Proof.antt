@@ -4,6 +4,9 @@ use borrow.Author.Needs.{needs}
 use Rattle.compounds.proofs.complemented_part.Statement.{statement}
 use Rattle.compounds.proofs.complemented_part.Tie as tie
 
+width-in-requires : tie.Need-width-in-requires
+width-in-requires c κs = search needs
+
 emit-requires : tie.Need-emit-requires
 emit-requires c κs = search needs
 
@@ -12,8 +15,8 @@ one-more-requires c κs = search needs
 
 returns : tie.Need-returns
 returns c =
-    let a = c .before .before .before .args in
-    rw (c .one-more .ensures, c .before .emit .ensures) (under-not (a .c) (a .width) (a .code .now))
+    let a = c .before .before .before .before .args in
+    rw (c .one-more .ensures, c .before .emit .ensures, c .before .before .before .width-in .ensures) (under-not (a .c) (a .width) (a .code .now))
 
 pub complemented-part-spec : {M : Type 1} → statement M
-complemented-part-spec = tie.close (tie.spec emit-requires one-more-requires returns)
+complemented-part-spec = tie.close (tie.spec width-in-requires emit-requires one-more-requires returns)

@@ -4,18 +4,15 @@ use borrow.Author.Needs.{needs}
 use Rattle.compounds.proofs.joined_part.Statement.{statement}
 use Rattle.compounds.proofs.joined_part.Tie as tie
 
-entry-in-requires : tie.Need-entry-in-requires
-entry-in-requires c κs = search needs
-
-width-by-requires : tie.Need-width-by-requires
-width-by-requires c κs = search needs
+width-in-requires : tie.Need-width-in-requires
+width-in-requires c κs = search needs
 
 returns : tie.Need-returns
 returns c =
-    let entry = c .before .before .before in
+    let entry = c .before .before in
     let a = entry .args in
     joins-not (a .row) (a .left) (a .width) (a .right) (a .other) (a .code .now) (a .code .now) (entry .pre .0)
-    (rw (c .before .width-by .ensures, c .before .before .entry-in .ensures) at (c .if1 .taken))
+    (rw (c .before .width-in .ensures) at (c .if1 .taken))
 
 cast-emit : tie.Need-cast-emit
 cast-emit c = search needs
@@ -31,19 +28,17 @@ one-more-requires c κs = search needs
 
 returns-2 : tie.Need-returns-2
 returns-2 c =
-    let entry = c .before .before .before .before .before .before in
+    let entry = c .before .before .before .before .before in
     let a = entry .args in
-    let width = c .before .before .before .before .width-by .ensures in
-    let row = c .before .before .before .before .before .entry-in .ensures in
-    rw (c .one-more .ensures, c .before .emit .ensures, width, row)
-    (joins (a .row) (a .left) (a .width) (a .right) (a .other) (a .code .now) (entry .pre .0) (rw (width, row) at (c .before .before .before .if1 .left)))
+    let width = c .before .before .before .before .width-in .ensures in
+    rw (c .one-more .ensures, c .before .emit .ensures, width)
+    (joins (a .row) (a .left) (a .width) (a .right) (a .other) (a .code .now) (entry .pre .0) (rw width at (c .before .before .before .if1 .left)))
 
 pub joined-part-spec : {M : Type 1} → statement M
 joined-part-spec =
     tie.close
     (tie.spec
-    entry-in-requires
-    width-by-requires
+    width-in-requires
     returns
     cast-emit
     add-emit

@@ -1,8 +1,9 @@
 -- `expression::memory_place`: the weakest level behind the bracket, with calls enough for the field.
-use mathlib.Core.Path.{sym, _∙_}
+use mathlib.Core.Path.{sym, ap, _∙_}
 use Prim.Native.Nat.{_+_}
 use native.Mathlib.Omega.{arith}
 use Rattle.names.specs.Names.{entries}
+use Rattle.operators.specs.declared.Entry.{Entry}
 use Rattle.operators.specs.Operators.{weakest}
 use Rattle.laws.proofs.Lists.{present}
 use Rattle.tokens.specs.Tokens.{squareOpen}
@@ -21,17 +22,22 @@ byte-requires : tie.Need-byte-requires
 byte-requires c κs =
     search needs
 
-add-t14 : tie.Need-add-t14
-add-t14 c =
+add-t15 : tie.Need-add-t15
+add-t15 c =
     let skipped = c .before .before in
     omega (arith, present (skipped .before .before .before .args .s .now) (skipped .skip-spaces .result) squareOpen (sym (c .before .byte .ensures) ∙ c .if1 .taken) (omega arith))
 
+entry-in-requires : tie.Need-entry-in-requires
+entry-in-requires c κs =
+    search needs
+
 read-level-requires : tie.Need-read-level-requires
 read-level-requires c κs =
-    let skipped = c .before .before .before in
+    let tested = c .before .before in
+    let skipped = tested .before .before in
     let called = skipped .before .before .before in
-    let inside = present (called .args .s .now) (skipped .skip-spaces .result) squareOpen (sym (c .before .before .byte .ensures) ∙ c .before .if1 .taken) (omega arith) in
-    omega (arith, called .pre, inside)
+    let inside = present (called .args .s .now) (skipped .skip-spaces .result) squareOpen (sym (tested .before .byte .ensures) ∙ tested .if1 .taken) (omega arith) in
+    omega (arith, called .pre, inside, ap (λ (e : Entry). e .strength) (c .before .entry-in .ensures))
 
 enum-known-close : tie.Need-enum-known-close
 enum-known-close c =
@@ -40,7 +46,7 @@ enum-known-close c =
 addressed-place-requires : tie.Need-addressed-place-requires
 addressed-place-requires c κs =
     let growth = rw (c .before .close .given .1) at (c .before .before .before .read-level .ensures .grown) in
-    omega (arith, c .before .before .before .before .before .before .before .before .before .before .pre, growth)
+    omega (arith, c .before .before .before .before .before .before .before .before .before .before .before .pre, growth)
 
 enum-told : tie.Need-enum-told
 enum-told c =
@@ -48,7 +54,7 @@ enum-told c =
 
 returns : tie.Need-returns
 returns c =
-    let tested = c .before .before .before .before .before .before in
+    let tested = c .before .before .before .before .before .before .before in
     let skipped = tested .before .before in
     let a = skipped .before .before .before .args in
     let s = a .s .now in
@@ -58,7 +64,7 @@ returns c =
     let close = c .before .before .close .given in
     let call = c .before .before .before .before .read-level in
     let code = call .last .1 .1 .1 .0 in
-    let answer = rw (close .1) at (call .ensures) in
+    let answer = rw (close .1, c .before .before .before .before .before .before .entry-in .ensures) at (call .ensures) in
     let growth = answer .grown in
     aimed (c .addressed-place .result) (memoryAt rs s (a .end)) (ofAddress s x) s (record { place = 0; words = a .words; pieces = a .pieces }) (q + 1) (a .code .now) code
     (opens rs s (a .end) q _ (skipped .skip-spaces .ensures) (tested .before .byte .ensures) (tested .if1 .taken))
@@ -66,14 +72,14 @@ returns c =
 
 returns-2 : tie.Need-returns-2
 returns-2 c =
-    let tested = c .before .before .before .before in
+    let tested = c .before .before .before .before .before in
     let skipped = tested .before .before in
     let a = skipped .before .before .before .args in
     let s = a .s .now in
     let rs = entries (a .text .now) (a .d) in
     let q = skipped .skip-spaces .result in
     let call = c .before .before .read-level in
-    let answer = rw (c .enum-told .given .1) at (call .ensures) in
+    let answer = rw (c .enum-told .given .1, c .before .before .before .before .entry-in .ensures) at (call .ensures) in
     opens rs s (a .end) q _ (skipped .skip-spaces .ensures) (tested .before .byte .ensures) (tested .if1 .taken)
     ∙ address-fault s (level (fuel s) rs s 0 weakest (q + 1)) (record { place = q + 1; words = a .words; pieces = a .pieces }) (a .code .now) (call .last .1 .1 .1 .0) (answer .meets (fuel s) (omega arith))
 
@@ -89,7 +95,8 @@ memory-place-spec =
     (tie.spec
     skip-spaces-requires
     byte-requires
-    add-t14
+    add-t15
+    entry-in-requires
     read-level-requires
     enum-known-close
     addressed-place-requires

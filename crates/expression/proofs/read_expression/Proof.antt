@@ -1,10 +1,11 @@
 -- `expression::read_expression`: the weakest level from the start, with calls enough for the field.
-use mathlib.Core.Path.{refl, sym, _∙_}
+use mathlib.Core.Path.{refl, sym, ap, _∙_}
 use Prim.Native.Nat.{ℕ, _+_}
 use native.Mathlib.Omega.{arith}
 use Rattle.names.specs.Names.{entries}
 use Rattle.code.specs.declared.Cursor.{Cursor}
 use Rattle.code.specs.declared.Part.the-variants.{Fault}
+use Rattle.operators.specs.declared.Entry.{Entry}
 use Rattle.operators.specs.Operators.{weakest}
 use Rattle.grammar.specs.Grammar.{level, fuel}
 use Rattle.expression.specs.Expression.{whole, expression}
@@ -21,8 +22,11 @@ start words pieces = record { place = 0; words = words; pieces = pieces }
 is-trimmed-requires : tie.Need-is-trimmed-requires
 is-trimmed-requires c κs = search needs
 
+entry-in-requires : tie.Need-entry-in-requires
+entry-in-requires c κs = search needs
+
 read-level-requires : tie.Need-read-level-requires
-read-level-requires c κs = search needs
+read-level-requires c κs = omega (arith, c .before .before .before .before .before .before .pre, ap (λ (e : Entry). e .strength) (c .before .entry-in .ensures))
 
 enum-known-end : tie.Need-enum-known-end
 enum-known-end c = search needs
@@ -30,14 +34,14 @@ enum-known-end c = search needs
 whole-part-requires : tie.Need-whole-part-requires
 whole-part-requires c κs =
     let growth = rw (c .before .end .given .1) at (c .before .before .before .read-level .ensures .grown) in
-    omega (arith, c .before .before .before .before .before .before .before .before .before .pre, growth)
+    omega (arith, c .before .before .before .before .before .before .before .before .before .before .pre, growth)
 
 enum-told : tie.Need-enum-told
 enum-told c = search needs
 
 returns : tie.Need-returns
 returns c =
-    let tested = c .before .before .before .before .before .before in
+    let tested = c .before .before .before .before .before .before .before in
     let a = tested .before .before .before .before .args in
     let s = a .s .now in
     let rs = entries (a .text .now) (a .d) in
@@ -46,7 +50,7 @@ returns c =
     let end = c .before .before .end .given in
     let call = c .before .before .before .before .read-level in
     let code = call .last .1 .1 .1 .0 in
-    let answer = rw (end .1) at (call .ensures) in
+    let answer = rw (end .1, c .before .before .before .before .before .before .entry-in .ensures) at (call .ensures) in
     let trim = trims rs s (sym (tested .before .is-trimmed .ensures) ∙ tested .if1 .taken) in
     record {
       meets = met (expression rs s) (whole s x) (c .whole-part .result) from (a .code .now) code trim
@@ -57,7 +61,7 @@ returns c =
 returns-2 : tie.Need-returns-2
 unfolding whole
 returns-2 c =
-    let tested = c .before .before .before .before in
+    let tested = c .before .before .before .before .before in
     let a = tested .before .before .before .before .args in
     let s = a .s .now in
     let rs = entries (a .text .now) (a .d) in
@@ -65,7 +69,7 @@ returns-2 c =
     let from = start (a .words) (a .pieces) in
     let call = c .before .before .read-level in
     let code = call .last .1 .1 .1 .0 in
-    let answer = rw (c .enum-told .given .1) at (call .ensures) in
+    let answer = rw (c .enum-told .given .1, c .before .before .before .before .entry-in .ensures) at (call .ensures) in
     let trim = trims rs s (sym (tested .before .is-trimmed .ensures) ∙ tested .if1 .taken) in
     record {
       meets = met (expression rs s) (whole s x) Fault from (a .code .now) code trim
@@ -85,6 +89,7 @@ read-expression-spec =
     tie.close
     (tie.spec
     is-trimmed-requires
+    entry-in-requires
     read-level-requires
     enum-known-end
     whole-part-requires

@@ -211,7 +211,9 @@ read-operation-rotated-part-requires t c κs =
     let called = ended .before .before .before .before in
     let a = called .args in
     let past = operator-past (a .s .now) (a .left .place) (a .strength) (called .pre .1 .1 .1 .1 .1) (called .pre .1 .1 .1 .0 .0) in
-    omega (arith, called .pre, past, ended .operator-end .ensures, ended .before .operator-at .ensures)
+    let turns = c .before .if1 .taken ∙ ap (λ (e : Entry). e .strength) (c .before .before .entry-in .ensures) in
+    let row = ap (λ (r : ℕ). entryIn r .strength) (ended .before .operator-at .ensures) ∙ called .pre .1 .1 .1 .1 .1 ∙ turns in
+    omega (arith, called .pre, past, row, ended .operator-end .ensures)
 
 pub read-operation-returns : (t : ℕ) → read-operation-lts.Need-returns (read-operation-claims t) (read-operation-at t) read-operation.Post
 read-operation-returns t c =

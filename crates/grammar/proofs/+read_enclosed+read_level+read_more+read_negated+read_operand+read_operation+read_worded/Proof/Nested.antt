@@ -84,7 +84,10 @@ read-negated-returns-3 t c =
     answered 0 (λ g. outside) (omega arith) (negated-deep (entries (a .text .now) (a .d)) (a .s .now) (a .depth) (a .c .place) (c .if1 .left)) (λ g b. tt) tt
 
 abbrev pub read-enclosed-claims : ℕ → read-enclosed-lts.Claims
-read-enclosed-claims t = (read-level-below t, read-level.Post, closed-part-reads.Asked, closed-part-reads.Learnt)
+read-enclosed-claims t = (entry-in-reads.Asked, entry-in-reads.Learnt, read-level-below t, read-level.Post, closed-part-reads.Asked, closed-part-reads.Learnt)
+
+pub read-enclosed-entry-in-requires : (t : ℕ) → read-enclosed-lts.Need-entry-in-requires (read-enclosed-claims t) (read-enclosed-at t) read-enclosed.Post
+read-enclosed-entry-in-requires t c κs = tt
 
 pub read-enclosed-add-read-level : (t : ℕ) → read-enclosed-lts.Need-add-read-level (read-enclosed-claims t) (read-enclosed-at t) read-enclosed.Post
 read-enclosed-add-read-level t c =
@@ -92,7 +95,7 @@ read-enclosed-add-read-level t c =
 
 pub read-enclosed-read-level-requires : (t : ℕ) → read-enclosed-lts.Need-read-level-requires (read-enclosed-claims t) (read-enclosed-at t) read-enclosed.Post
 read-enclosed-read-level-requires t c κs =
-    search needs
+    omega (arith, c .before .before .before .before .before .pre, ap (λ (e : Entry). e .strength) (c .before .entry-in .ensures))
 
 pub read-enclosed-enum-known-inner : (t : ℕ) → read-enclosed-lts.Need-enum-known-inner (read-enclosed-claims t) (read-enclosed-at t) read-enclosed.Post
 read-enclosed-enum-known-inner t c =
@@ -101,7 +104,7 @@ read-enclosed-enum-known-inner t c =
 pub read-enclosed-closed-part-requires : (t : ℕ) → read-enclosed-lts.Need-closed-part-requires (read-enclosed-claims t) (read-enclosed-at t) read-enclosed.Post
 read-enclosed-closed-part-requires t c κs =
     let growth = rw (c .before .before .inner .given .1) at (c .before .before .before .before .read-level .ensures .grown) in
-    omega (arith, c .before .before .before .before .before .before .before .before .before .pre, growth)
+    omega (arith, c .before .before .before .before .before .before .before .before .before .before .pre, growth)
 
 pub read-enclosed-enum-told : (t : ℕ) → read-enclosed-lts.Need-enum-told (read-enclosed-claims t) (read-enclosed-at t) read-enclosed.Post
 read-enclosed-enum-told t c =
@@ -109,13 +112,14 @@ read-enclosed-enum-told t c =
 
 pub read-enclosed-returns : (t : ℕ) → read-enclosed-lts.Need-returns (read-enclosed-claims t) (read-enclosed-at t) read-enclosed.Post
 read-enclosed-returns t c =
-    let tested = c .before .before .before .before .before .before .before in
+    let tested = c .before .before .before .before .before .before .before .before in
     let a = tested .before .before .before .args in
     let s = a .s .now in
     let rs = entries (a .text .now) (a .d) in
     let d = a .depth in
     let p = a .c .place in
-    let answer = rw (c .before .before .before .inner .given .1) at (c .before .before .before .before .before .read-level .ensures) in
+    let call = c .before .before .before .before .before in
+    let answer = rw (c .before .before .before .inner .given .1, call .before .before .entry-in .ensures) at (call .read-level .ensures) in
     let growth = answer .grown in
     answered (calls s p 8) (λ g. closed s (a .close) (level g rs s (d + 1) weakest p)) (omega arith) (enclosed-in rs s d p (a .close) (tested .if1 .taken))
     (λ g b. c .closed-part .ensures .meets (level g rs s (d + 1) weakest p) _ _ (answer .meets g b))
@@ -124,13 +128,13 @@ read-enclosed-returns t c =
 pub read-enclosed-returns-2 : (t : ℕ) → read-enclosed-lts.Need-returns-2 (read-enclosed-claims t) (read-enclosed-at t) read-enclosed.Post
 unfolding closed
 read-enclosed-returns-2 t c =
-    let tested = c .before .before .before .before in
+    let tested = c .before .before .before .before .before in
     let a = tested .before .before .before .args in
     let s = a .s .now in
     let rs = entries (a .text .now) (a .d) in
     let d = a .depth in
     let p = a .c .place in
-    let answer = rw (c .enum-told .given .1) at (c .before .before .read-level .ensures) in
+    let answer = rw (c .enum-told .given .1, c .before .before .before .before .entry-in .ensures) at (c .before .before .read-level .ensures) in
     answered (calls s p 8) (λ g. closed s (a .close) (level g rs s (d + 1) weakest p)) (omega arith) (enclosed-in rs s d p (a .close) (tested .if1 .taken))
     (λ g b. still-fault (closed s (a .close)) (level g rs s (d + 1) weakest p) _ _ _ _ _ _ refl (answer .meets g b))
     tt

@@ -200,8 +200,8 @@ fn read_negated(
         (now (s .entry)) (c .place + 1) (c .words + 2) (c .pieces + 2) r c (now (code .entry)) (now (code .exit)) ⌝ }
 {
     if depth < DEEPEST {
-        let strongest = operators::entry_in(NOT).strength;
-        match read_level(text, d, s, code, depth + 1, strongest, c) {
+        let own = operators::entry_in(NOT).strength;
+        match read_level(text, d, s, code, depth + 1, own, c) {
             Part::Found(operand, width) => compounds::complemented_part(code, operand, width),
             Part::Fault => Part::Fault,
         }

@@ -122,7 +122,7 @@ read-enclosed-returns t c =
     let answer = rw (c .before .before .before .inner .given .1, call .before .before .entry-in .ensures) at (call .read-level .ensures) in
     let growth = answer .grown in
     answered (calls s p 8) (λ g. closed s (a .close) (level g rs s (d + 1) weakest p)) (omega arith) (enclosed-in rs s d p (a .close) (tested .if1 .taken))
-    (λ g b. c .closed-part .ensures .meets (level g rs s (d + 1) weakest p) _ _ (answer .meets g b))
+    (λ g b. c .closed-part .ensures .meets (level g rs s (d + 1) weakest p) _ _ (answer .meets g (omega (arith, b))))
     (regrown s (c .closed-part .result) _ _ _ _ _ _ (c .closed-part .ensures .grown) (omega (arith, growth)))
 
 pub read-enclosed-returns-2 : (t : ℕ) → read-enclosed-lts.Need-returns-2 (read-enclosed-claims t) (read-enclosed-at t) read-enclosed.Post
@@ -136,7 +136,7 @@ read-enclosed-returns-2 t c =
     let p = a .c .place in
     let answer = rw (c .enum-told .given .1, c .before .before .before .before .entry-in .ensures) at (c .before .before .read-level .ensures) in
     answered (calls s p 8) (λ g. closed s (a .close) (level g rs s (d + 1) weakest p)) (omega arith) (enclosed-in rs s d p (a .close) (tested .if1 .taken))
-    (λ g b. still-fault (closed s (a .close)) (level g rs s (d + 1) weakest p) _ _ _ _ _ _ refl (answer .meets g b))
+    (λ g b. still-fault (closed s (a .close)) (level g rs s (d + 1) weakest p) _ _ _ _ _ _ refl (answer .meets g (omega (arith, b))))
     tt
 
 pub read-enclosed-returns-3 : (t : ℕ) → read-enclosed-lts.Need-returns-3 (read-enclosed-claims t) (read-enclosed-at t) read-enclosed.Post

@@ -1,4 +1,5 @@
 pub mod Pass
+pub mod Read
 pub mod Form
 pub mod Cut
 pub mod ByLines

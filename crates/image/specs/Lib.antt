@@ -1,3 +1,4 @@
 pub mod Input
 pub mod Pass
+pub mod Read
 pub mod Scan

@@ -2,15 +2,17 @@
 -- shows that they come to what Input says by lines.
 -- Assumes nothing.
 use mathlib.Core.List.{List}
-use mathlib.Core.Bool.{true, false}
+use mathlib.Core.Bool.{Bool, true, false}
 use Prim.Native.Nat.{ℕ, _+_, _*_, _%_, _^_}
 use lib.ListN.{set}
 use lib.Dec.{ltb}
+use lib.IntN.{ℤ}
 use Rattle.word.specs.Choice.{on, choose}
 use Rattle.word.specs.Word.{wordBits}
 use Rattle.state.specs.Limits.{memoryWords}
 use Rattle.image.specs.Input.{form, clear}
 use Rattle.image.specs.Pass.{pass, Passed, Left, nextLine}
+use Rattle.image.specs.Read.{AfterRead}
 use Rattle.image.specs.declared.Scanner.{Scanner}
 
 -- the scanner and the memory that it loads
@@ -74,3 +76,7 @@ Scanned s chunk t = Passed scanByte begun s chunk t
 
 abbrev pub Reached : Scan → Type 0
 Reached s = Left scanByte begun s
+
+-- and what a read comes to
+abbrev pub Turned : Scan → ℤ → List ℕ → Scan → Bool → Bool → Type 0
+Turned s got buffer t more failed = AfterRead scanByte begun s got buffer t more failed

@@ -5,7 +5,7 @@ use state::MEMORY_WORDS;
 ghost use mathlib.Core.Path.{_≡_};
 ghost use mathlib.Core.List.{[]};
 ghost use Rattle.image.specs.Input.{form};
-ghost use Rattle.image.specs.Scan.{held, fresh, shifted, scanByte, scanOf, unfitLine, Scanned, accepted as Scan·accepted};
+ghost use Rattle.image.specs.Scan.{held, fresh, shifted, scanByte, scanOf, unfitLine, Scanned, Turned, accepted as Scan·accepted};
 
 // The place in the input: the line's number from 1, the bytes read of it, the address and the word so far, and the first line
 // that was refused, or 0.
@@ -15,6 +15,13 @@ pub struct Scanner {
     pub address: u16,
     pub word: u16,
     pub refused: u64,
+}
+
+// The scanner after a read, whether the input may go on, and whether the read failed.
+pub struct Turn {
+    pub scanner: Scanner,
+    pub more: bool,
+    pub failed: bool,
 }
 
 // The scanner at the start of a line.
@@ -106,6 +113,19 @@ pub fn scanned(memory: &mut [u16; MEMORY_WORDS], s: Scanner, chunk: &[u8]) -> Sc
         i += 1;
     }
     at
+}
+
+// The scanner and the memory after a read that answered `got` and left the buffer as it is: after the bytes that were read, and no others.
+pub fn after_read(memory: &mut [u16; MEMORY_WORDS], s: Scanner, got: isize, buffer: &[u8]) -> Turn
+    ensures { λ r. ⌜ Turned (held s (now (memory .entry))) got (now (buffer .entry)) (held (r .scanner) (now (memory .exit))) (r .more) (r .failed) ⌝ }
+{
+    let n = io::count(got, buffer);
+    let next = scanned(memory, s, &buffer[..n]);
+    Turn {
+        scanner: next,
+        more: got > 0,
+        failed: got < 0,
+    }
 }
 
 // The number of the first unfit line of a text that ends here, or 0: a line that has begun lacks its LF.

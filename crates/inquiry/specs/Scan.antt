@@ -2,13 +2,15 @@
 -- shows that they come to what Input says by lines.
 -- Assumes nothing.
 use mathlib.Core.List.{List, [], _∷_, _++_}
-use mathlib.Core.Bool.{true, false}
+use mathlib.Core.Bool.{Bool, true, false}
 use Prim.Native.Nat.{ℕ}
 use lib.ListN.{length, take}
 use lib.Dec.{eqb, ltb}
+use lib.IntN.{ℤ}
 use Rattle.word.specs.Choice.{on, choose}
 use Rattle.fields.specs.Fields.{lineFeed}
 use Rattle.image.specs.Pass.{pass, Passed, Left, nextLine}
+use Rattle.image.specs.Read.{AfterRead}
 use Rattle.entry.specs.Lines.{lineBytes, entry, isUnfit}
 use Rattle.inquiry.specs.Input.{Inquiry, ready, entered}
 use Rattle.entry.specs.declared.Entry.{Entry}
@@ -78,3 +80,7 @@ Scanned s chunk t = Passed scanByte begun s chunk t
 
 abbrev pub Reached : Scan → Type 0
 Reached s = Left scanByte begun s
+
+-- and what a read comes to
+abbrev pub Turned : Scan → ℤ → List ℕ → Scan → Bool → Bool → Type 0
+Turned s got buffer t more failed = AfterRead scanByte begun s got buffer t more failed

@@ -9,7 +9,7 @@ ghost use mathlib.Core.List.{List, []};
 ghost use Prim.Native.Nat.{ℕ};
 ghost use lib.ListN.{set};
 ghost use Rattle.entry.specs.Lines.{isUnfit};
-ghost use Rattle.inquiry.specs.Scan.{held, refusing, entering, atNextLine, ended, scanByte, scanOf, unfitLine, Scanned};
+ghost use Rattle.inquiry.specs.Scan.{held, refusing, entering, atNextLine, ended, scanByte, scanOf, unfitLine, Scanned, Turned};
 
 // The place in the input: the line's number from 1 and the bytes read of it; the machine registers and the budget so far; and the
 // first line that was refused, or 0.
@@ -20,6 +20,13 @@ pub struct Scanner {
     pub registers: [u16; REGISTERS],
     pub budget: u64,
     pub refused: u64,
+}
+
+// The scanner after a read, whether the input may go on, and whether the read failed.
+pub struct Turn {
+    pub scanner: Scanner,
+    pub more: bool,
+    pub failed: bool,
 }
 
 // Whether a line is unfit, by what it says.
@@ -142,6 +149,19 @@ pub fn scanned(memory: &mut [u16; MEMORY_WORDS], s: Scanner, chunk: &[u8]) -> Sc
         i += 1;
     }
     at
+}
+
+// The scanner and the memory after a read that answered `got` and left the buffer as it is: after the bytes that were read, and no others.
+pub fn after_read(memory: &mut [u16; MEMORY_WORDS], s: Scanner, got: isize, buffer: &[u8]) -> Turn
+    ensures { λ r. ⌜ Turned (held s (now (memory .entry))) got (now (buffer .entry)) (held (r .scanner) (now (memory .exit))) (r .more) (r .failed) ⌝ }
+{
+    let n = io::count(got, buffer);
+    let next = scanned(memory, s, &buffer[..n]);
+    Turn {
+        scanner: next,
+        more: got > 0,
+        failed: got < 0,
+    }
 }
 
 // The number of the first unfit line of a text that ends here, or 0: a line that has begun lacks its LF.

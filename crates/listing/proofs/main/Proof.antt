@@ -5,8 +5,8 @@ use lib.Seq.{length-take-le}
 use Rattle.listing.proofs.main.Statement.{statement}
 use Rattle.listing.proofs.main.Tie as tie
 
-scan-all-requires : tie.Need-scan-all-requires
-scan-all-requires c κs = search needs
+read-all-requires : tie.Need-read-all-requires
+read-all-requires c κs = search needs
 
 slice-aggregate-fail : tie.Need-slice-aggregate-fail
 slice-aggregate-fail c = search needs
@@ -29,14 +29,23 @@ slice-aggregate-write-all c = sym (length-take-le _ _ (c .before .listing .ensur
 write-all-requires : tie.Need-write-all-requires
 write-all-requires c κs = search needs
 
+slice-aggregate-fail-2 : tie.Need-slice-aggregate-fail-2
+slice-aggregate-fail-2 c = search needs
+
+fail-requires-2 : tie.Need-fail-requires-2
+fail-requires-2 c κs = search needs
+
 returns-2 : tie.Need-returns-2
 returns-2 c = search needs
+
+returns-3 : tie.Need-returns-3
+returns-3 c = search needs
 
 pub main-spec : {M : Type 1} → statement M
 main-spec =
     tie.close
     (tie.spec
-    scan-all-requires
+    read-all-requires
     slice-aggregate-fail
     fail-requires
     returns
@@ -44,4 +53,7 @@ main-spec =
     array-share-prefix-page
     slice-aggregate-write-all
     write-all-requires
-    returns-2)
+    slice-aggregate-fail-2
+    fail-requires-2
+    returns-2
+    returns-3)

@@ -1,9 +1,9 @@
--- `listing::scan_all`: after each read the scanner and the memory are those of some text. The turns that are left fall.
+-- `listing::read_all`: after each read the scanner and the memory are those of some text. The turns that are left fall.
 use borrow.Author.Needs.{needs}
 use mathlib.Core.List.{[]}
 use Rattle.image.specs.Scan.{held, Reached}
-use Rattle.listing.proofs.scan_all.Statement.{statement}
-use Rattle.listing.proofs.scan_all.Tie as tie
+use Rattle.listing.proofs.read_all.Statement.{statement}
+use Rattle.listing.proofs.read_all.Tie as tie
 
 abbrev Inv-loop : tie.InvT-loop
 Inv-loop memory₀ turn₀ turns₀ memory turn turns = Reached (held (turn .scanner) memory)
@@ -14,14 +14,14 @@ abbrev μ-loop : tie.MeasureT-loop
 begin-requires : tie.Need-begin-requires Inv-loop μ-loop
 begin-requires c κs = search needs
 
-scan-some-requires : tie.Need-scan-some-requires Inv-loop μ-loop
-scan-some-requires c κs = record { text = []; is = c .before .begin .ensures }
+read-some-requires : tie.Need-read-some-requires Inv-loop μ-loop
+read-some-requires c κs = record { text = []; is = c .before .begin .ensures }
 
 loop-holds : tie.Need-loop-holds Inv-loop μ-loop
-loop-holds c = c .scan-some .ensures
+loop-holds c = c .read-some .ensures
 
-scan-some-requires-2 : tie.Need-scan-some-requires-2 Inv-loop μ-loop
-scan-some-requires-2 c κs = c .before .before .before .before .before .loop .inv
+read-some-requires-2 : tie.Need-read-some-requires-2 Inv-loop μ-loop
+read-some-requires-2 c κs = c .before .before .before .before .before .loop .inv
 
 sub-turns : tie.Need-sub-turns Inv-loop μ-loop
 sub-turns c = search needs
@@ -30,7 +30,7 @@ loop-less : tie.Need-loop-less Inv-loop μ-loop
 loop-less c = search needs
 
 loop-again : tie.Need-loop-again Inv-loop μ-loop
-loop-again c = c .scan-some2 .ensures
+loop-again c = c .read-some2 .ensures
 
 returns : tie.Need-returns Inv-loop μ-loop
 returns c = c .before .loop .inv
@@ -38,16 +38,16 @@ returns c = c .before .loop .inv
 returns-2 : tie.Need-returns-2 Inv-loop μ-loop
 returns-2 c = c .before .before .before .loop .inv
 
-pub scan-all-spec : {M : Type 1} → statement M
-scan-all-spec =
+pub read-all-spec : {M : Type 1} → statement M
+read-all-spec =
     tie.close
     (tie.spec
     Inv-loop
     μ-loop
     begin-requires
-    scan-some-requires
+    read-some-requires
     loop-holds
-    scan-some-requires-2
+    read-some-requires-2
     sub-turns
     loop-less
     loop-again

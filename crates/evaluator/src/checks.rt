@@ -1,7 +1,7 @@
 // What is tried of a state before its run: 11 to 15.
 use names::Dictionary;
 use state::Verdict;
-use turn::Registers;
+use store::Registers;
 ghost use mathlib.Core.Path.{_≡_};
 ghost use Prim.Native.Nat.{ℕ, _≤_};
 ghost use Rattle.word.specs.Word.{widest};

@@ -12,7 +12,7 @@ use row_table::TABLE_CELLS;
 use state::Reason;
 use state::Refusal;
 use state::Verdict;
-use turn::Registers;
+use store::Registers;
 ghost use mathlib.Core.Path.{_≡_};
 ghost use Prim.Native.Nat.{_≤_};
 ghost use lib.ListN.{length};

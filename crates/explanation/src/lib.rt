@@ -9,7 +9,7 @@ use run_lines::rows;
 use shipped::Both;
 use state::MEMORY_WORDS;
 use state::ROW_PLACES;
-use turn::Registers;
+use store::Registers;
 ghost use mathlib.Core.Path.{_≡_};
 ghost use mathlib.Core.List.{_++_};
 ghost use Prim.Native.Nat.{_≤_};

@@ -1,7 +1,7 @@
 // The evaluator for C callers: guavachisel_evaluate of include/guavachisel.h.
 use crate::numbers;
 use evaluator::Outcome;
-use turn::Registers;
+use store::Registers;
 ghost use mathlib.Core.Path.{_≡_};
 ghost use mathlib.Core.List.{List};
 ghost use Prim.Native.Nat.{ℕ};

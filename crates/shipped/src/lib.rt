@@ -1,6 +1,6 @@
 // Emulator and evaluator beside each other, on the shipped description of the PDP-8.
 use machine::Machine;
-use turn::Registers;
+use store::Registers;
 ghost use mathlib.Core.Path.{_≡_};
 ghost use Rattle.evaluator.specs.Evaluate.{report, evaluate};
 ghost use Rattle.emulator.specs.Emulate as emulation;

@@ -1,11 +1,11 @@
 -- What `guavachisel_read` yields to a C caller: "The answer is the number and line."
 -- Assumes nothing.
-use mathlib.Core.List.{List, [], _∷_}
-use Prim.Native.Nat.{ℕ}
 use Rattle.declaration.specs.Faults.{numberOf}
 use Rattle.description.specs.Description.{Answer, accepted, turnedDown}
+use Rattle.guavachisel.specs.declared.outcome.Outcome.{Outcome}
+use Rattle.guavachisel.specs.Outcome.{silent, refused}
 
--- "outcome[0]: 0, or the refusal's number. outcome[1]: .. the line .. (0 if accepted)"
-abbrev pub outcomeOf : Answer → List ℕ
-outcomeOf (accepted d) = 0 ∷ 0 ∷ []
-outcomeOf (turnedDown f n) = numberOf f ∷ n ∷ []
+-- what it speaks of: refusal and place, 0 and 0 if the text is accepted
+abbrev pub outcomeOf : Answer → Outcome
+outcomeOf (accepted d) = silent
+outcomeOf (turnedDown f n) = refused (numberOf f) n

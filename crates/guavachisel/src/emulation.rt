@@ -1,13 +1,17 @@
 // The emulator for C callers: guavachisel_emulate of include/guavachisel.h.
-use crate::numbers;
+use crate::outcome;
+use crate::outcome::OUTCOME_PLACES;
 use emulator::Answer;
 use machine::Machine;
 ghost use mathlib.Core.Path.{_≡_};
 ghost use Rattle.machine.specs.State.{values};
 ghost use Rattle.guavachisel.specs.Emulation.{Emulated};
 
-// The registers in a caller's array.
-fn loaded(registers: [u16; 6]) -> Machine
+// The registers that the machine has.
+const MACHINE_REGISTERS: usize = 6;
+
+// The machine in a caller's places.
+fn loaded(registers: [u16; MACHINE_REGISTERS]) -> Machine
     ensures { λ r. ⌜ values r ≡ registers ⌝ }
 {
     Machine {
@@ -24,19 +28,19 @@ fn loaded(registers: [u16; 6]) -> Machine
 #[no_mangle]
 pub extern "C" fn guavachisel_emulate(
     memory: &mut [u16],
-    registers: &mut [u16; 6],
+    registers: &mut [u16; MACHINE_REGISTERS],
     budget: u64,
-    outcome: &mut [u64; 3],
+    outcome: &mut [u64; OUTCOME_PLACES],
 )
     ensures { λ r. ⌜ Emulated (now (memory .entry)) (now (registers .entry)) budget (now (memory .exit)) (now (registers .exit)) (now (outcome .exit)) ⌝ }
 {
     match emulator::emulate(memory, loaded(*registers), budget) {
         Answer::Ran(m, why, steps) => {
             *registers = [m.lac, m.pc, m.run, m.enable, m.request, m.switches];
-            *outcome = [0, steps, numbers::reason_number(why)];
+            *outcome = outcome::ran(steps, why, 0);
         }
         Answer::Refused(why) => {
-            *outcome = [numbers::refusal_number(why), numbers::refusal_place(why), 0];
+            *outcome = outcome::refused(why);
         }
     }
 }

@@ -1,26 +1,23 @@
 // The evaluator for C callers: guavachisel_evaluate of include/guavachisel.h.
-use crate::numbers;
+use crate::outcome;
+use crate::outcome::OUTCOME_PLACES;
 use evaluator::Outcome;
 use store::Registers;
 ghost use mathlib.Core.Path.{_≡_};
 ghost use mathlib.Core.List.{List};
 ghost use Prim.Native.Nat.{ℕ};
 ghost use Rattle.evaluator.specs.Evaluate.{outcomeOf as reported};
+ghost use Rattle.guavachisel.specs.Outcome.{places};
 ghost use Rattle.guavachisel.specs.Evaluation.{outcomeOf, Evaluated};
 
-// The numbers by which a C caller knows what came of a call.
-fn outcome_numbers(end: Outcome) -> [u64; 4]
-    ensures { λ r. ⌜ ((registers memory list : List ℕ) → r ≡ outcomeOf (reported end registers memory list)) ⌝ }
+// What came of a call, as a C caller gets it.
+fn outcome_of(end: Outcome) -> [u64; OUTCOME_PLACES]
+    ensures { λ r. ⌜ ((registers memory list : List ℕ) → r ≡ places (outcomeOf (reported end registers memory list))) ⌝ }
 {
     match end {
-        Outcome::Ran(why, steps, listed) => [0, steps, numbers::reason_number(why), listed as u64],
-        Outcome::Unread(f, line) => [numbers::fault_number(f), line as u64, 0, 0],
-        Outcome::Refused(why) => [
-            numbers::refusal_number(why),
-            numbers::refusal_place(why),
-            0,
-            0,
-        ],
+        Outcome::Ran(why, steps, listed) => outcome::ran(steps, why, listed as u64),
+        Outcome::Unread(f, line) => outcome::unread(f, line),
+        Outcome::Refused(why) => outcome::refused(why),
     }
 }
 
@@ -32,7 +29,7 @@ pub extern "C" fn guavachisel_evaluate(
     registers: &mut [u16; 16],
     budget: u64,
     rows: &mut [u8],
-    outcome: &mut [u64; 4],
+    outcome: &mut [u64; OUTCOME_PLACES],
 )
     ensures { λ r. ⌜ Evaluated (now (text .entry)) (now (registers .entry)) (now (memory .entry)) budget (now (rows .entry))
         (now (registers .exit)) (now (memory .exit)) (now (rows .exit)) (now (outcome .exit)) ⌝ }
@@ -44,5 +41,5 @@ pub extern "C" fn guavachisel_evaluate(
     let values = after.values;
     *registers = values;
     let end = answer.outcome;
-    *outcome = outcome_numbers(end);
+    *outcome = outcome_of(end);
 }

@@ -2,4 +2,7 @@
 pub mod emulation;
 pub mod evaluation;
 mod numbers;
+mod outcome;
 pub mod reading;
+pub mod shipping;
+pub mod version;

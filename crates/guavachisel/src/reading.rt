@@ -1,16 +1,18 @@
 // The reader for C callers: guavachisel_read of include/guavachisel.h.
-use crate::numbers;
+use crate::outcome;
+use crate::outcome::OUTCOME_PLACES;
 use code::CODE_PLACES;
 use description::reader::Verdict;
 use row_table::TABLE_CELLS;
 ghost use mathlib.Core.Path.{_≡_};
 ghost use Rattle.description.specs.Description.{readText};
+ghost use Rattle.guavachisel.specs.Outcome.{places};
 ghost use Rattle.guavachisel.specs.Reading.{outcomeOf};
 
 // Reads a caller's text.
 #[no_mangle]
-pub extern "C" fn guavachisel_read(text: &[u8], outcome: &mut [u64; 2])
-    ensures { λ r. ⌜ now (outcome .exit) ≡ outcomeOf (readText (now (text .entry))) ⌝ }
+pub extern "C" fn guavachisel_read(text: &[u8], outcome: &mut [u64; OUTCOME_PLACES])
+    ensures { λ r. ⌜ now (outcome .exit) ≡ places (outcomeOf (readText (now (text .entry)))) ⌝ }
 {
     let mut code = [0u16; CODE_PLACES];
     let mut table = [0u16; TABLE_CELLS];
@@ -18,10 +20,10 @@ pub extern "C" fn guavachisel_read(text: &[u8], outcome: &mut [u64; 2])
     let verdict = answer.verdict;
     match verdict {
         Verdict::Accepted => {
-            *outcome = [0, 0];
+            *outcome = outcome::answered(0);
         }
         Verdict::Refused(f, line) => {
-            *outcome = [numbers::fault_number(f), line as u64];
+            *outcome = outcome::unread(f, line);
         }
     }
 }

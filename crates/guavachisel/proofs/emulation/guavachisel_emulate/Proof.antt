@@ -14,37 +14,32 @@ emulate-requires c κs = search needs
 enum-known-m : tie.Need-enum-known-m
 enum-known-m c = search needs
 
-reason-number-requires : tie.Need-reason-number-requires
-reason-number-requires c κs = search needs
+ran-requires : tie.Need-ran-requires
+ran-requires c κs = search needs
 
 enum-known-why : tie.Need-enum-known-why
 enum-known-why c = search needs
 
-refusal-number-requires : tie.Need-refusal-number-requires
-refusal-number-requires c κs = search needs
-
-refusal-place-requires : tie.Need-refusal-place-requires
-refusal-place-requires c κs = search needs
+refused-requires : tie.Need-refused-requires
+refused-requires c κs = search needs
 
 same-length : tie.Need-same-length
 same-length c = search needs
 
 returns : tie.Need-returns
 returns c =
-    let e = c .before .before .before .before .before .before .before .before in
+    let e = c .before .before .before .before .before .before .before in
     let a = e .before .before .before .before .before .args in
-    rw (c .before .reason-number .ensures)
-    (ran-emulated (now (a .memory)) (now (a .registers)) _ _ (a .budget) _ (e .before .loaded .ensures) (e .emulate .ensures) _ _ _ (c .before .before .before .before .m .given .1))
+    ran-emulated (now (a .memory)) (now (a .registers)) _ _ (a .budget) _ (e .before .loaded .ensures) (e .emulate .ensures) _ _ _ _ (c .before .before .before .m .given .1) (c .ran .ensures)
 
 same-length-2 : tie.Need-same-length-2
 same-length-2 c = search needs
 
 returns-2 : tie.Need-returns-2
 returns-2 c =
-    let e = c .before .before .before .before .before .before .before .before in
+    let e = c .before .before .before .before .before .before in
     let a = e .before .before .before .before .before .args in
-    rw (c .before .before .refusal-number .ensures, c .before .refusal-place .ensures)
-    (refused-emulated (now (a .memory)) (now (a .registers)) _ _ (a .budget) _ (e .before .loaded .ensures) (e .emulate .ensures) _ (c .before .before .before .before .why .given .1))
+    refused-emulated (now (a .memory)) (now (a .registers)) _ _ (a .budget) _ (e .before .loaded .ensures) (e .emulate .ensures) _ _ (c .before .before .why .given .1) (c .refused .ensures)
 
 pub guavachisel-emulate-spec : {M : Type 1} → statement M
 guavachisel-emulate-spec =
@@ -53,10 +48,9 @@ guavachisel-emulate-spec =
     loaded-requires
     emulate-requires
     enum-known-m
-    reason-number-requires
+    ran-requires
     enum-known-why
-    refusal-number-requires
-    refusal-place-requires
+    refused-requires
     same-length
     returns
     same-length-2

@@ -7,8 +7,8 @@ use Rattle.guavachisel.proofs.evaluation.guavachisel_evaluate.Tie as ti
 evaluate-requires : tie.Need-evaluate-requires
 evaluate-requires c κs = search needs
 
-outcome-numbers-requires : tie.Need-outcome-numbers-requires
-outcome-numbers-requires c κs = search needs
+outcome-of-requires : tie.Need-outcome-of-requires
+outcome-of-requires c κs = search needs
 
 same-length : tie.Need-same-length
 same-length c = search needs
@@ -20,7 +20,7 @@ returns : tie.Need-returns
 returns c =
     let e = c .before .before .before .before .before .before .before in
     let a = e .before .before .before .before .before .before .before .args in
-    evaluated (a .text .now) (a .registers .now) (a .memory .now) (a .budget) (a .rows .now) _ _ _ _ (e .evaluate .result .outcome) (e .evaluate .ensures) (c .outcome-numbers .ensures)
+    evaluated (a .text .now) (a .registers .now) (a .memory .now) (a .budget) (a .rows .now) _ _ _ _ (e .evaluate .result .outcome) (e .evaluate .ensures) (c .outcome-of .ensures)
 
 pub guavachisel-evaluate-spec : {M : Type 1} → statement M
-guavachisel-evaluate-spec = tie.close (tie.spec evaluate-requires outcome-numbers-requires same-length same-length-2 returns)
+guavachisel-evaluate-spec = tie.close (tie.spec evaluate-requires outcome-of-requires same-length same-length-2 returns)

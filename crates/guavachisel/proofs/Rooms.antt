@@ -1,0 +1,48 @@
+-- A text in a caller's room: where it fits, where it does not, and where there is none.
+-- Assumes nothing.
+use mathlib.Core.Path.{_≡_, refl, sym, ap, _∙_}
+use mathlib.Core.Bool.{Bool}
+use mathlib.Core.List.{List, [], _++_}
+use Prim.Native.Nat.{ℕ, _≤_, _<_}
+use native.Mathlib.Nat.{zero-add}
+use native.Mathlib.Omega.{arith}
+use borrow.Author.Tests.{eq-eqb, ne-eqb, le-leb, lt-leb}
+use lib.ListN.{length, drop}
+use lib.Seq.{sets, sets-eq}
+use Rattle.word.specs.Choice.{pick}
+use Rattle.pdp8_rows.specs.Text.{shippedText}
+use Rattle.guavachisel.specs.Outcome.{places, answered}
+use Rattle.guavachisel.specs.Shipping.{plain, shippedOf, written, Shipped}
+
+pub fits : (text room : List ℕ) → length text ≤ length room → sets room 0 text ≡ written text room
+unfolding written
+fits text room h =
+    sets-eq text room 0 (omega (arith, h))
+    ∙ ap (λ (k : ℕ). text ++ drop k room) (zero-add (length text))
+    ∙ sym (ap (λ (b : Bool). pick b (text ++ drop (length text) room) room) (le-leb (length text) (length room) h))
+
+pub too-long : (text room : List ℕ) → length room < length text → room ≡ written text room
+unfolding written
+too-long text room h = sym (ap (λ (b : Bool). pick b (text ++ drop (length text) room) room) (lt-leb (length text) (length room) h))
+
+-- the number of a description
+module _ (which : ℕ) (room : List ℕ) where
+  pub described : (text room′ out : List ℕ) (n : ℕ) → which ≡ plain → text ≡ shippedText → length text ≡ n → room′ ≡ written text room → out ≡ places (answered n)
+      → Shipped which room room′ out
+  unfolding shippedOf
+  described text room′ out n e f l g h =
+      let is = f ∙ sym (ap (λ (b : Bool). pick b shippedText []) (eq-eqb which plain e)) in
+      record {
+        text = g ∙ ap (λ (t : List ℕ). written t room) is;
+        outcome = h ∙ sym (ap (λ (k : ℕ). places (answered k)) l) ∙ ap (λ (t : List ℕ). places (answered (length t))) is;
+      }
+
+  -- and any other number
+  pub undescribed : (out : List ℕ) → (which ≡ plain → ⊥) → out ≡ places (answered 0) → Shipped which room room out
+  unfolding shippedOf
+  undescribed out e h =
+      let is = sym (ap (λ (b : Bool). pick b shippedText []) (ne-eqb which plain e)) in
+      record {
+        text = fits [] room (omega arith) ∙ ap (λ (t : List ℕ). written t room) is;
+        outcome = h ∙ ap (λ (t : List ℕ). places (answered (length t))) is;
+      }

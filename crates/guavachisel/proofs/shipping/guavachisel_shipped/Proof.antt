@@ -1,0 +1,47 @@
+-- `guavachisel_shipped` hands over the text of the number that has one.
+use Rattle.guavachisel.proofs.Rooms.{described, undescribed}
+use borrow.Author.Needs.{needs}
+use Rattle.guavachisel.proofs.shipping.guavachisel_shipped.Statement.{statement}
+use Rattle.guavachisel.proofs.shipping.guavachisel_shipped.Tie as tie
+
+shipped-text-requires : tie.Need-shipped-text-requires
+shipped-text-requires c κs = search needs
+
+slice-aggregate-write : tie.Need-slice-aggregate-write
+slice-aggregate-write c = search needs
+
+write-requires : tie.Need-write-requires
+write-requires c κs = search needs
+
+answered-requires : tie.Need-answered-requires
+answered-requires c κs = search needs
+
+answered-requires-2 : tie.Need-answered-requires-2
+answered-requires-2 c κs = search needs
+
+same-length : tie.Need-same-length
+same-length c = search needs
+
+returns : tie.Need-returns
+returns c =
+    let s = c .before .before .before .before .before .before in
+    let a = s .before .before .before .args in
+    described (a .which) (a .text .now) (s .shipped-text .result) _ _ _ (s .before .if1 .taken) (s .shipped-text .ensures) (search needs) (c .before .before .before .write .ensures) (c .answered .ensures)
+
+returns-2 : tie.Need-returns-2
+returns-2 c =
+    let a = c .before .before .before .args in
+    undescribed (a .which) (a .text .now) _ (c .before .if1 .left) (c .answered2 .ensures)
+
+pub guavachisel-shipped-spec : {M : Type 1} → statement M
+guavachisel-shipped-spec =
+    tie.close
+    (tie.spec
+    shipped-text-requires
+    slice-aggregate-write
+    write-requires
+    answered-requires
+    answered-requires-2
+    same-length
+    returns
+    returns-2)

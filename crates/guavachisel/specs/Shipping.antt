@@ -1,0 +1,27 @@
+-- What `guavachisel_shipped` yields to a C caller: a shipped description in the caller's room.
+-- Assumes nothing.
+use mathlib.Core.Path.{_≡_}
+use mathlib.Core.List.{List, [], _++_}
+use Prim.Native.Nat.{ℕ}
+use lib.Dec.{eqb, leb}
+use lib.ListN.{length, drop}
+use Rattle.word.specs.Choice.{pick}
+use Rattle.pdp8_rows.specs.Text.{shippedText}
+use Rattle.guavachisel.specs.Outcome.{places, answered}
+
+-- "GUAVACHISEL_PLAIN": the number of the description of the machine without devices, in one field
+abbrev pub plain : ℕ
+plain = 0
+
+-- the description of a number; no text where it has none
+unfoldable pub shippedOf : ℕ → List ℕ
+shippedOf which = pick (eqb which plain) shippedText []
+
+-- "it is written only where it fits (room equal to its length does), else nothing is; room past it stays"
+unfoldable pub written : List ℕ → List ℕ → List ℕ
+written text room = pick (leb (length text) (length room)) (text ++ drop (length text) room) room
+
+-- everything after the call: the room, and the outcome, which speaks of the text's length
+pub record Shipped (which : ℕ) (room room′ out′ : List ℕ) : Type 0 where
+  pub text : room′ ≡ written (shippedOf which) room
+  pub outcome : out′ ≡ places (answered (length (shippedOf which)))

@@ -1,4 +1,13 @@
-/* Guavachisel's C interface. Every function takes whatever it is handed and always returns. After a refusal memory, registers and row list are as they came. */
+/*
+ * Guavachisel's C interface, for C99 and C++11 or later on x86-64 Linux.
+ *
+ * Of every entry holds:
+ * - A pointer is valid for the length that stands behind it, or for the struct that it points to, and no two pointers of a call overlap (in C: restrict).
+ *   NULL may stand only where the length is 0.
+ * - It takes whatever else it is handed, always returns, and writes exactly one outcome. After a refusal everything but the outcome is as it came.
+ * - It keeps nothing between calls: threads may call it at the same time, each on its own data.
+ * - It needs no more stack than GUAVACHISEL_STACK_.. says of it below, in bytes.
+ */
 #ifndef GUAVACHISEL_H
 #define GUAVACHISEL_H
 
@@ -7,37 +16,107 @@
 
 #ifdef __cplusplus
 extern "C" {
+#define GUAVACHISEL_RESTRICT __restrict__
+#else
+#define GUAVACHISEL_RESTRICT restrict
 #endif
 
-/*
- * Runs the PDP-8 for at most `budget` steps.
- * registers: LAC, PC, RUN, INTERRUPT.ENABLE, INTERRUPT.REQUEST, SWITCHES.
- * outcome[0]: 0, or the refusal's number: 11 memory isn't 4,096 words, 12 a word above 4,095, 13 a register value wider than its register,
- *             14 budget above 1,000,000.
- * outcome[1]: the steps done; after a refusal the lowest offending place, from 0, or 0 if none applies.
- * outcome[2]: 1 halted, 2 spent, 0 refused.
- */
-void guavachisel_emulate(uint16_t *memory, size_t words, uint16_t registers[6], uint64_t budget, uint64_t outcome[3]);
+/* Counts up with every change that a caller has to be compiled anew for; guavachisel_version() says the library's. */
+#define GUAVACHISEL_VERSION 2
+
+#define GUAVACHISEL_WORDS 4096       /* words of memory */
+#define GUAVACHISEL_REGISTERS 16     /* places for a description's registers */
+#define GUAVACHISEL_ROWS 128         /* places that a row list has at least */
+#define GUAVACHISEL_BUDGET 1000000   /* the largest budget */
+#define GUAVACHISEL_TEXT_BYTES 16384 /* the longest text of a description */
+
+#define GUAVACHISEL_STACK_EMULATE 4096
+#define GUAVACHISEL_STACK_READ 163840
+#define GUAVACHISEL_STACK_EVALUATE 180224
+#define GUAVACHISEL_STACK_SHIPPED 4096
+#define GUAVACHISEL_STACK_VERSION 4096
+
+/* The registers of the PDP-8: LAC has 13 bits, PC and SWITCHES 12, the others one. */
+typedef struct {
+    uint16_t lac;
+    uint16_t pc;
+    uint16_t run;
+    uint16_t interrupt_enable;
+    uint16_t interrupt_request;
+    uint16_t switches;
+} guavachisel_machine;
+
+/* The registers of a description, in the order of its lines; 0 where it has none. */
+typedef struct {
+    uint16_t values[GUAVACHISEL_REGISTERS];
+} guavachisel_registers;
+
+/* What every entry reports. What an entry doesn't speak of is 0. */
+typedef struct {
+    uint64_t refusal; /* 0, or one of guavachisel_refusal */
+    uint64_t place;   /* of a refusal: the text's line, or the lowest offending place of memory or registers, from 0 */
+    uint64_t steps;   /* steps or cycles done; 0 after a refusal */
+    uint64_t reason;  /* why the run ended: one of guavachisel_reason; 0 after a refusal */
+    uint64_t rows;    /* rows listed */
+    uint64_t read;    /* no entry speaks of it */
+    uint64_t printed; /* no entry speaks of it */
+    uint64_t answer;  /* the length of a shipped description */
+    uint64_t sum;     /* no entry speaks of it */
+} guavachisel_outcome;
+
+/* Why a run ended. */
+enum guavachisel_reason {
+    GUAVACHISEL_HALTED = 1, /* RUN is 0 */
+    GUAVACHISEL_SPENT = 2   /* the budget is done */
+};
+
+/* What is refused. A text is tried first, then the state, by rising numbers. */
+enum guavachisel_refusal {
+    GUAVACHISEL_REFUSED_SIZE = 1,       /* text over 16,384 bytes; its line is 0 */
+    GUAVACHISEL_REFUSED_HEADER = 2,     /* the first line isn't the header */
+    GUAVACHISEL_REFUSED_LINE = 3,       /* the form of a line */
+    GUAVACHISEL_REFUSED_REGISTER = 4,   /* a register's name or width */
+    GUAVACHISEL_REFUSED_EXPRESSION = 5, /* an expression or a destination */
+    GUAVACHISEL_REFUSED_LABEL = 6,      /* a label, or a `go` without its label lower down */
+    GUAVACHISEL_REFUSED_LIMIT = 7,      /* one register, row, label or piece too many */
+    GUAVACHISEL_REFUSED_RUN = 8,        /* no register RUN of width 1; its line is the one after the last */
+    GUAVACHISEL_REFUSED_MEMORY = 11,    /* memory isn't 4,096 words; its place is 0 */
+    GUAVACHISEL_REFUSED_WORD = 12,      /* a word above 4,095 */
+    GUAVACHISEL_REFUSED_VALUE = 13,     /* a register's value wider than the register, or not 0 where there is none */
+    GUAVACHISEL_REFUSED_BUDGET = 14,    /* budget above 1,000,000; its place is 0 */
+    GUAVACHISEL_REFUSED_ROW_LIST = 15   /* row list shorter than 128 places; its place is 0 */
+};
+
+/* The shipped descriptions. */
+enum guavachisel_description {
+    GUAVACHISEL_PLAIN = 0 /* the PDP-8 of guavachisel_emulate; its first six registers are those of guavachisel_machine, in that order */
+};
+
+/* Runs the PDP-8 for at most `budget` steps. Refusals 11 to 14. Speaks of refusal, place, steps and reason. */
+void guavachisel_emulate(uint16_t *GUAVACHISEL_RESTRICT memory, size_t words, guavachisel_machine *GUAVACHISEL_RESTRICT machine, uint64_t budget,
+                         guavachisel_outcome *GUAVACHISEL_RESTRICT outcome);
+
+/* Reads a description. Refusals 1 to 8. Speaks of refusal and place, which is the line, from 1. */
+void guavachisel_read(const uint8_t *GUAVACHISEL_RESTRICT text, size_t bytes, guavachisel_outcome *GUAVACHISEL_RESTRICT outcome);
 
 /*
- * Reads a description.
- * outcome[0]: 0 if it is accepted, or the refusal's number: 1 text over 16,384 bytes, 2 no header, 3 the form of a line, 4 a register's name or width,
- *             5 an expression or destination, 6 a label, 7 one register, row, label or piece too many, 8 no register RUN of width 1.
- * outcome[1]: the line of the refusal, 0 if the text is accepted or too long.
+ * Runs a description's rows for at most `budget` cycles, and lists the rows that acted in the last cycle, rising, in the first places of `rows`; later places
+ * stay. Refusals 1 to 8, then 11 to 15. Speaks of refusal, place, steps, reason and rows.
  */
-void guavachisel_read(const uint8_t *text, size_t bytes, uint64_t outcome[2]);
+void guavachisel_evaluate(const uint8_t *GUAVACHISEL_RESTRICT text, size_t bytes, uint16_t *GUAVACHISEL_RESTRICT memory, size_t words,
+                          guavachisel_registers *GUAVACHISEL_RESTRICT registers, uint64_t budget, uint8_t *GUAVACHISEL_RESTRICT rows, size_t places,
+                          guavachisel_outcome *GUAVACHISEL_RESTRICT outcome);
 
 /*
- * Runs a description's rows for at most `budget` cycles.
- * registers: the values of the description's registers, in its order; 0 where there is none. rows: a list of at least 128 places, in which the rows that acted in the
- * last cycle stand first, rising; later places stay.
- * outcome[0]: 0, or the refusal's number: 1 to 8 as above, 11 to 14 as for guavachisel_emulate, 15 a row list shorter than 128 places.
- * outcome[1]: the cycles done; after a refusal the text's line or the lowest offending place.
- * outcome[2]: 1 halted, 2 spent, 0 refused.
- * outcome[3]: the rows listed.
+ * Writes the shipped description `which` to the first bytes of `text`, if it fits into the `room` bytes there; else, and behind it, they stay as they came. Speaks
+ * of answer: the description's length in bytes, also where it doesn't fit; 0 for a number that isn't one of guavachisel_description.
  */
-void guavachisel_evaluate(const uint8_t *text, size_t bytes, uint16_t *memory, size_t words, uint16_t registers[16], uint64_t budget, uint8_t *rows, size_t places,
-                          uint64_t outcome[4]);
+void guavachisel_shipped(uint64_t which, uint8_t *GUAVACHISEL_RESTRICT text, size_t room, guavachisel_outcome *GUAVACHISEL_RESTRICT outcome);
+
+/* The GUAVACHISEL_VERSION that the library was made for, to be compared with the header's. */
+uint64_t guavachisel_version(void);
+
+#undef GUAVACHISEL_RESTRICT
 
 #ifdef __cplusplus
 }

@@ -1,5 +1,6 @@
-/* The three entries from C: the day's image run by the emulator, a description read, and run by the evaluator. */
+/* The entries from C: the day's image run by the emulator, and by the evaluator of the shipped description; a description of our own, read and run. */
 #include <guavachisel.h>
+#include <inttypes.h>
 #include <stdio.h>
 #include <string.h>
 
@@ -10,36 +11,85 @@ static const char counter[] = "rows\t1\n"
                               "do\t1\tcount\tcount + 1\n"
                               "do\tcount Eql 3\tRUN\t0\n";
 
-static uint16_t memory[4096];
+static uint16_t memory[GUAVACHISEL_WORDS];
+static uint8_t shipped[GUAVACHISEL_TEXT_BYTES];
 
-int main(void)
+/* CLA CLL; TAD 0204; IAC; HLT; and the word 7777 */
+static void load(void)
 {
-    /* LAC, PC, RUN, INTERRUPT.ENABLE, INTERRUPT.REQUEST, SWITCHES */
-    uint16_t machine[6] = {0, 0200, 1, 0, 0, 0};
-    uint64_t outcome[4];
-
-    /* CLA CLL; TAD 0204; IAC; HLT; and the word 7777 */
     memory[0200] = 07300;
     memory[0201] = 01204;
     memory[0202] = 07001;
     memory[0203] = 07402;
     memory[0204] = 07777;
-    guavachisel_emulate(memory, 4096, machine, 16, outcome);
-    printf("emulate: %d steps, reason %d, LAC %05o\n", (int)outcome[1], (int)outcome[2], machine[0]);
+}
 
-    /* A refusal tells its number and the line or place, and leaves everything as it came. */
-    guavachisel_emulate(memory, 4000, machine, 16, outcome);
-    printf("emulate 4000 words: refusal %d\n", (int)outcome[0]);
-    guavachisel_read((const uint8_t *)"rows\t1\nreg\tRUN\t99\n", 18, outcome);
-    printf("read: refusal %d in line %d\n", (int)outcome[0], (int)outcome[1]);
+static const char *ended(const guavachisel_outcome *outcome)
+{
+    return outcome->reason == GUAVACHISEL_HALTED ? "halted" : "spent";
+}
 
-    /* Sixteen places for registers; the places that the description doesn't use hold 0. */
-    uint16_t registers[16] = {1, 0};
-    uint8_t rows[128];
-    guavachisel_evaluate((const uint8_t *)counter, strlen(counter), memory, 4096, registers, 100, rows, 128, outcome);
-    printf("evaluate: %d cycles, reason %d, count %d, rows that acted last:", (int)outcome[1], (int)outcome[2], registers[1]);
-    for (uint64_t n = 0; n < outcome[3]; n++)
+static void print_rows(const uint8_t *rows, uint64_t listed)
+{
+    printf(", rows that acted last:");
+    for (uint64_t n = 0; n < listed; n++)
         printf(" %d", rows[n]);
     printf("\n");
+}
+
+static void emulate(void)
+{
+    guavachisel_machine machine = {.pc = 0200, .run = 1};
+    guavachisel_outcome outcome;
+
+    load();
+    guavachisel_emulate(memory, GUAVACHISEL_WORDS, &machine, 16, &outcome);
+    printf("emulate: %" PRIu64 " steps, %s, LAC %05o\n", outcome.steps, ended(&outcome), machine.lac);
+
+    /* A refusal tells its number and the line or place, and leaves everything as it came. */
+    machine.switches = 010000;
+    guavachisel_emulate(memory, GUAVACHISEL_WORDS, &machine, 16, &outcome);
+    if (outcome.refusal == GUAVACHISEL_REFUSED_VALUE)
+        printf("emulate: register %" PRIu64 " has too wide a value\n", outcome.place);
+}
+
+static void evaluate_shipped(void)
+{
+    /* its first registers are the machine's, in the same order: PC is the second, RUN the third */
+    guavachisel_registers registers = {{0, 0200, 1}};
+    guavachisel_outcome outcome;
+    uint8_t rows[GUAVACHISEL_ROWS];
+
+    guavachisel_shipped(GUAVACHISEL_PLAIN, shipped, sizeof shipped, &outcome);
+    printf("shipped: %" PRIu64 " bytes\n", outcome.answer);
+    load();
+    guavachisel_evaluate(shipped, (size_t)outcome.answer, memory, GUAVACHISEL_WORDS, &registers, 16, rows, GUAVACHISEL_ROWS, &outcome);
+    printf("evaluate: %" PRIu64 " cycles, %s, LAC %05o", outcome.steps, ended(&outcome), registers.values[0]);
+    print_rows(rows, outcome.rows);
+}
+
+static void evaluate_counter(void)
+{
+    /* the places that the description doesn't use hold 0 */
+    guavachisel_registers registers = {{1}};
+    guavachisel_outcome outcome;
+    uint8_t rows[GUAVACHISEL_ROWS];
+
+    guavachisel_read((const uint8_t *)"rows\t1\nreg\tRUN\t99\n", 18, &outcome);
+    printf("read: refusal %" PRIu64 " in line %" PRIu64 "\n", outcome.refusal, outcome.place);
+    guavachisel_evaluate((const uint8_t *)counter, strlen(counter), memory, GUAVACHISEL_WORDS, &registers, 100, rows, GUAVACHISEL_ROWS, &outcome);
+    printf("evaluate: %" PRIu64 " cycles, %s, count %d", outcome.steps, ended(&outcome), registers.values[1]);
+    print_rows(rows, outcome.rows);
+}
+
+int main(void)
+{
+    if (guavachisel_version() != GUAVACHISEL_VERSION) {
+        fprintf(stderr, "compiled with another version's header\n");
+        return 1;
+    }
+    emulate();
+    evaluate_shipped();
+    evaluate_counter();
     return 0;
 }

@@ -1,21 +1,21 @@
 //! The library's entries.
 
-use crate::library::{guavachisel_emulate, guavachisel_evaluate, guavachisel_read};
+use crate::library::{first, guavachisel_emulate, guavachisel_evaluate, guavachisel_read, told, OUTCOME_PLACES};
 
 pub fn emulate(memory: &mut [u16], registers: &mut [u16; 6], budget: u64) -> [u64; 3] {
-    let mut outcome = [0; 3];
+    let mut outcome = [0; OUTCOME_PLACES];
     unsafe { guavachisel_emulate(memory.as_mut_ptr(), memory.len(), registers.as_mut_ptr(), budget, outcome.as_mut_ptr()) };
-    outcome
+    first(outcome)
 }
 
 pub fn read(text: &[u8]) -> [u64; 2] {
-    let mut outcome = [0; 2];
+    let mut outcome = [0; OUTCOME_PLACES];
     unsafe { guavachisel_read(text.as_ptr(), text.len(), outcome.as_mut_ptr()) };
-    outcome
+    first(outcome)
 }
 
 pub fn evaluate(text: &[u8], memory: &mut [u16], registers: &mut [u16; 16], budget: u64, rows: &mut [u8]) -> [u64; 4] {
-    let mut outcome = [0; 4];
+    let mut outcome = [0; OUTCOME_PLACES];
     unsafe {
         guavachisel_evaluate(
             text.as_ptr(),
@@ -29,5 +29,5 @@ pub fn evaluate(text: &[u8], memory: &mut [u16], registers: &mut [u16; 16], budg
             outcome.as_mut_ptr(),
         )
     };
-    outcome
+    told(outcome)
 }

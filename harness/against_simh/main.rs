@@ -9,7 +9,7 @@ mod library;
 mod random;
 
 use images::{comparable, expectations, from_tape, random_image, tape, Image};
-use library::guavachisel_emulate;
+use library::{guavachisel_emulate, told, OUTCOME_PLACES};
 use random::Random;
 use std::fs;
 use std::process::{exit, Command, Stdio};
@@ -24,10 +24,11 @@ struct End {
 }
 
 fn emulate(memory: &mut [u16], registers: &mut [u16; 6], budget: u64) -> u64 {
-    let mut outcome = [0; 3];
+    let mut outcome = [0; OUTCOME_PLACES];
     unsafe { guavachisel_emulate(memory.as_mut_ptr(), memory.len(), registers.as_mut_ptr(), budget, outcome.as_mut_ptr()) };
-    assert_eq!(outcome[0], 0, "refused");
-    outcome[1]
+    let [refusal, steps, ..] = told(outcome);
+    assert_eq!(refusal, 0, "refused");
+    steps
 }
 
 /// The library's end, and its steps: at most the budget, and none from the first word on that is not compared.

@@ -1,6 +1,6 @@
 //! Calls of the C entries under test. Everything lent to an entry stands between guard places, which have to stay.
 
-use crate::library::{guavachisel_emulate, guavachisel_evaluate, guavachisel_read};
+use crate::library::{first, guavachisel_emulate, guavachisel_evaluate, guavachisel_read, told, OUTCOME_PLACES};
 
 const GUARDS: usize = 16;
 
@@ -40,23 +40,23 @@ impl<T: Copy + PartialEq> Guarded<T> {
 pub fn emulate(memory: &mut [u16], registers: &mut [u16; 6], budget: u64) -> [u64; 3] {
     let mut words = Guarded::new(memory, 0xa5a5);
     let mut values = Guarded::new(&registers[..], 0x5a5a);
-    let mut outcome = Guarded::new(&[77; 3], u64::MAX - 5);
+    let mut outcome = Guarded::new(&[77; OUTCOME_PLACES], u64::MAX - 5);
     unsafe { guavachisel_emulate(words.pointer(), memory.len(), values.pointer(), budget, outcome.pointer()) };
     words.take_back(memory, "memory");
     values.take_back(registers, "registers");
-    let mut answer = [0; 3];
+    let mut answer = [0; OUTCOME_PLACES];
     outcome.take_back(&mut answer, "outcome");
-    answer
+    first(answer)
 }
 
 pub fn read(text: &[u8]) -> [u64; 2] {
     let mut bytes = Guarded::new(text, b'1');
-    let mut outcome = Guarded::new(&[77; 2], u64::MAX - 5);
+    let mut outcome = Guarded::new(&[77; OUTCOME_PLACES], u64::MAX - 5);
     unsafe { guavachisel_read(bytes.pointer(), text.len(), outcome.pointer()) };
     assert!(bytes.values() == text && bytes.unharmed(), "the text was written to");
-    let mut answer = [0; 2];
+    let mut answer = [0; OUTCOME_PLACES];
     outcome.take_back(&mut answer, "outcome");
-    answer
+    first(answer)
 }
 
 pub fn evaluate(text: &[u8], memory: &mut [u16], registers: &mut [u16; 16], budget: u64, rows: &mut [u8]) -> [u64; 4] {
@@ -64,7 +64,7 @@ pub fn evaluate(text: &[u8], memory: &mut [u16], registers: &mut [u16; 16], budg
     let mut words = Guarded::new(memory, 0xa5a5);
     let mut values = Guarded::new(&registers[..], 0x5a5a);
     let mut list = Guarded::new(rows, 0xa5);
-    let mut outcome = Guarded::new(&[77; 4], u64::MAX - 5);
+    let mut outcome = Guarded::new(&[77; OUTCOME_PLACES], u64::MAX - 5);
     unsafe {
         guavachisel_evaluate(
             bytes.pointer(),
@@ -82,7 +82,7 @@ pub fn evaluate(text: &[u8], memory: &mut [u16], registers: &mut [u16; 16], budg
     words.take_back(memory, "memory");
     values.take_back(registers, "registers");
     list.take_back(rows, "row list");
-    let mut answer = [0; 4];
+    let mut answer = [0; OUTCOME_PLACES];
     outcome.take_back(&mut answer, "outcome");
-    answer
+    told(answer)
 }

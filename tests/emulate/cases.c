@@ -11,9 +11,10 @@
  *
  * The line written for a case:
  *
- *   name outcome[0] outcome[1] outcome[2] LAC PC RUN INTERRUPT.ENABLE INTERRUPT.REQUEST SWITCHES [address=word ...]
+ *   name refusal steps reason LAC PC RUN INTERRUPT.ENABLE INTERRUPT.REQUEST SWITCHES [address=word ...]
  *
- * The outcome is decimal, all else octal. The words are those that differ from what was given, past the memory's end too, by rising address.
+ * After a refusal its place stands for the steps. The outcome is decimal, all else octal. The words are those that differ from what was given, past the
+ * memory's end too, by rising address.
  *
  * The exit status is 0, or 2 with a message if a line isn't a case.
  */
@@ -23,17 +24,15 @@
 #include <stdlib.h>
 #include <string.h>
 
-#include "guavachisel.h"
+#include "../outcome.h"
 
-#define MEMORY_WORDS 4096
 #define PLACES 8192
-#define REGISTERS 6
 
 struct test_case {
     const char *name;
     uint16_t memory[PLACES];
     size_t words;
-    uint16_t registers[REGISTERS];
+    guavachisel_machine machine;
     uint64_t budget;
 };
 
@@ -74,21 +73,29 @@ static int read_memory_field(char *field, struct test_case *test)
     return 1;
 }
 
+/* Reads the next field as a register; 0 if it isn't one. */
+static int read_register(uint16_t *value)
+{
+    uint64_t number;
+
+    if (!read_number(strtok(NULL, " \n"), 8, UINT16_MAX, &number))
+        return 0;
+    *value = (uint16_t)number;
+    return 1;
+}
+
 /* Reads a case, whose name stays in `line`; 0 if the line isn't one. */
 static int read_case(char *line, struct test_case *test)
 {
-    uint64_t value;
+    guavachisel_machine *machine = &test->machine;
     char *field;
-    int i;
 
     memset(test, 0, sizeof *test);
-    test->words = MEMORY_WORDS;
+    test->words = GUAVACHISEL_WORDS;
     test->name = strtok(line, " \n");
-    for (i = 0; i < REGISTERS; i++) {
-        if (!read_number(strtok(NULL, " \n"), 8, UINT16_MAX, &value))
-            return 0;
-        test->registers[i] = (uint16_t)value;
-    }
+    if (!read_register(&machine->lac) || !read_register(&machine->pc) || !read_register(&machine->run) || !read_register(&machine->interrupt_enable) ||
+        !read_register(&machine->interrupt_request) || !read_register(&machine->switches))
+        return 0;
     if (!read_number(strtok(NULL, " \n"), 10, UINT64_MAX, &test->budget))
         return 0;
     while ((field = strtok(NULL, " \n")) != NULL)
@@ -100,15 +107,16 @@ static int read_case(char *line, struct test_case *test)
 static void run_case(const struct test_case *test)
 {
     static struct test_case after;
-    uint64_t outcome[3] = {UINT64_MAX, UINT64_MAX, UINT64_MAX};
+    const guavachisel_machine *machine = &after.machine;
+    guavachisel_outcome outcome;
     unsigned address;
 
     after = *test;
-    guavachisel_emulate(after.memory, after.words, after.registers, after.budget, outcome);
+    memset(&outcome, 0xff, sizeof outcome);
+    guavachisel_emulate(after.memory, after.words, &after.machine, after.budget, &outcome);
 
-    printf("%s %" PRIu64 " %" PRIu64 " %" PRIu64, test->name, outcome[0], outcome[1], outcome[2]);
-    printf(" %05o %04o %o %o %o %04o", after.registers[0], after.registers[1], after.registers[2], after.registers[3], after.registers[4],
-           after.registers[5]);
+    printf("%s %" PRIu64 " %" PRIu64 " %" PRIu64, test->name, outcome.refusal, steps_or_place(&outcome, outcome.rows), outcome.reason);
+    printf(" %05o %04o %o %o %o %04o", machine->lac, machine->pc, machine->run, machine->interrupt_enable, machine->interrupt_request, machine->switches);
     for (address = 0; address < PLACES; address++)
         if (after.memory[address] != test->memory[address])
             printf(" %04o=%04o", address, after.memory[address]);

@@ -11,18 +11,17 @@
 #include <stdlib.h>
 #include <string.h>
 
-#include "guavachisel.h"
+#include "../outcome.h"
 
-#define WORDS 4096
+#define WORDS GUAVACHISEL_WORDS
 #define MACHINE_REGISTERS 6
-#define MOST_BYTES 16384
 #define MARK 255
 
 static const char *const names[MACHINE_REGISTERS] = {"LAC", "PC", "RUN", "INTERRUPT.ENABLE", "INTERRUPT.REQUEST", "SWITCHES"};
 
 struct image {
     uint16_t memory[WORDS];
-    uint16_t registers[16];
+    guavachisel_registers registers;
 };
 
 static uint64_t state;
@@ -93,9 +92,11 @@ static uint16_t start(void)
 }
 
 /* The machine registers, then the shipped description's working registers: i, last.pc and eadd of 12 bits and skip of one. */
-static void fill_registers(uint16_t *registers)
+static void fill_registers(guavachisel_registers *all)
 {
-    memset(registers, 0, 16 * sizeof *registers);
+    uint16_t *registers = all->values;
+
+    memset(all, 0, sizeof *all);
     registers[0] = (uint16_t)(below(4) == 0 ? 017776 + below(2) : below(020000));
     registers[1] = start();
     registers[2] = below(16) != 0;
@@ -109,16 +110,13 @@ static void fill_registers(uint16_t *registers)
 }
 
 /* Says where the two ended differently; 0 if nowhere. */
-static int differ(const struct image *emulated, const struct image *evaluated, const uint64_t *first, const uint64_t *second)
+static int differ(const struct image *emulated, const struct image *evaluated)
 {
     int place;
 
-    for (place = 0; place < 3; place++)
-        if (first[place] != second[place])
-            return printf("outcome[%d] %" PRIu64 " and %" PRIu64, place, first[place], second[place]);
     for (place = 0; place < MACHINE_REGISTERS; place++)
-        if (emulated->registers[place] != evaluated->registers[place])
-            return printf("%s %" PRIo16 " and %" PRIo16, names[place], emulated->registers[place], evaluated->registers[place]);
+        if (emulated->registers.values[place] != evaluated->registers.values[place])
+            return printf("%s %" PRIo16 " and %" PRIo16, names[place], emulated->registers.values[place], evaluated->registers.values[place]);
     for (place = 0; place < WORDS; place++)
         if (emulated->memory[place] != evaluated->memory[place])
             return printf("M[%04o] %04" PRIo16 " and %04" PRIo16, (unsigned)place, emulated->memory[place], evaluated->memory[place]);
@@ -130,41 +128,56 @@ static int malformed(const uint8_t *rows, uint64_t steps, uint64_t listed)
 {
     unsigned place;
 
-    if ((steps == 0) != (listed == 0) || listed > 128)
+    if ((steps == 0) != (listed == 0) || listed > GUAVACHISEL_ROWS)
         return printf("%" PRIu64 " rows listed after %" PRIu64 " steps", listed, steps);
     for (place = 1; place < listed; place++)
         if (rows[place - 1] >= rows[place])
             return printf("row list not rising at place %u", place);
-    for (place = (unsigned)listed; place < 128; place++)
+    for (place = (unsigned)listed; place < GUAVACHISEL_ROWS; place++)
         if (rows[place] != MARK)
             return printf("row list changed at place %u, after its %" PRIu64 " rows", place, listed);
     return 0;
+}
+
+/* Runs the emulator on an image, whose first registers are the machine's, in its order. */
+static guavachisel_outcome emulate(struct image *image, uint64_t budget)
+{
+    guavachisel_machine machine;
+    guavachisel_outcome outcome;
+
+    memcpy(&machine, image->registers.values, sizeof machine);
+    guavachisel_emulate(image->memory, WORDS, &machine, budget, &outcome);
+    memcpy(image->registers.values, &machine, sizeof machine);
+    return outcome;
 }
 
 /* Runs the image of a seed; 0 if both end alike. */
 static int run(uint64_t seed, const uint8_t *text, size_t bytes, uint64_t *steps)
 {
     static struct image emulated, evaluated;
-    uint8_t rows[128];
-    uint64_t budget, first[3], second[4];
+    uint8_t rows[GUAVACHISEL_ROWS];
+    uint64_t budget;
+    guavachisel_outcome first, second;
 
     state = seed;
     fill_memory(emulated.memory);
-    fill_registers(emulated.registers);
+    fill_registers(&emulated.registers);
     budget = below(8) == 0 ? below(4) : below(2001);
     evaluated = emulated;
     memset(rows, MARK, sizeof rows);
-    guavachisel_emulate(emulated.memory, WORDS, emulated.registers, budget, first);
-    guavachisel_evaluate(text, bytes, evaluated.memory, WORDS, evaluated.registers, budget, rows, sizeof rows, second);
-    *steps += first[1];
-    if (first[0] != 0)
-        return printf("the emulator refuses with %" PRIu64, first[0]);
-    return differ(&emulated, &evaluated, first, second) || malformed(rows, second[1], second[3]);
+    first = emulate(&emulated, budget);
+    guavachisel_evaluate(text, bytes, evaluated.memory, WORDS, &evaluated.registers, budget, rows, sizeof rows, &second);
+    *steps += first.steps;
+    if (first.refusal != 0 || second.refusal != 0)
+        return printf("refused, with %" PRIu64 " and %" PRIu64, first.refusal, second.refusal);
+    if (steps_or_place(&first, first.rows) != steps_or_place(&second, 0) || first.reason != second.reason)
+        return printf("%" PRIu64 " steps, reason %" PRIu64 ", and %" PRIu64 ", %" PRIu64, first.steps, first.reason, second.steps, second.reason);
+    return differ(&emulated, &evaluated) || malformed(rows, second.steps, second.rows);
 }
 
 int main(int count, char **arguments)
 {
-    static uint8_t text[MOST_BYTES + 1];
+    static uint8_t text[GUAVACHISEL_TEXT_BYTES + 1];
     size_t bytes;
     FILE *file;
     uint64_t images, seed, image, steps = 0;

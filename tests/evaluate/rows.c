@@ -1,7 +1,7 @@
 /*
  * Runs guavachisel_evaluate on the cases of standard input and writes one line for each, its parts separated by TABs: the case's number in the list,
- * from 1; the four numbers of the outcome; the registers, in octal, without the zeros at the end; the rows listed, or -; the memory words that
- * changed, as address=word in octal, or -.
+ * from 1; refusal, steps (after a refusal its place), reason and rows of the outcome; the registers, in octal, without the zeros at the end; the rows
+ * listed, or -; the memory words that changed, as address=word in octal, or -.
  *
  * A case is one line, its fields separated by " | ":
  *   the description's text, in which \t stands for TAB, \n for LF, \H for the head that most cases share (HEAD below), and \{N:..} for N times what
@@ -20,7 +20,7 @@
 #include <stdlib.h>
 #include <string.h>
 
-#include "guavachisel.h"
+#include "../outcome.h"
 
 #define HEAD "rows\t1\nreg\tRUN\t1\nreg\ta\t1\nreg\tb\t12\nreg\tc\t13\nreg\td\t16\nreg\tr\t16\nreg\tk\t5\n"
 #define MOST_BYTES 40000
@@ -31,13 +31,13 @@
 struct call {
     char text[MOST_BYTES];
     size_t bytes;
-    uint16_t registers[16];
+    guavachisel_registers registers;
     uint64_t budget;
     uint16_t memory[MOST_WORDS], before[MOST_WORDS];
     size_t words;
     uint8_t rows[MOST_PLACES];
     size_t places;
-    uint64_t outcome[4];
+    guavachisel_outcome outcome;
 };
 
 /* Appends `count` bytes `times` times; 0 if there is no room. */
@@ -106,9 +106,9 @@ static int read_registers(struct call *call, char *field)
 
     for (word = strtok(field, " "); word != NULL; word = strtok(NULL, " ")) {
         unsigned long value = strtoul(word, &end, 8);
-        if (place == 16 || *end != '\0' || value > UINT16_MAX)
+        if (place == GUAVACHISEL_REGISTERS || *end != '\0' || value > UINT16_MAX)
             return 0;
-        call->registers[place++] = (uint16_t)value;
+        call->registers.values[place++] = (uint16_t)value;
     }
     return place > 0;
 }
@@ -164,8 +164,8 @@ static int read_case(struct call *call, char *line)
     size_t place;
 
     memset(call, 0, sizeof *call);
-    call->words = 4096;
-    call->places = 128;
+    call->words = GUAVACHISEL_WORDS;
+    call->places = GUAVACHISEL_ROWS;
     for (place = 0; place < MOST_PLACES; place++)
         call->rows[place] = MARK(place);
     if (settings == NULL || !read_text(call, line, line + strlen(line)) || !read_registers(call, registers) || !read_settings(call, settings))
@@ -177,17 +177,17 @@ static int read_case(struct call *call, char *line)
 
 static void write_registers(const struct call *call)
 {
-    int count = 16, place;
+    int count = GUAVACHISEL_REGISTERS, place;
 
-    while (count > 1 && call->registers[count - 1] == 0)
+    while (count > 1 && call->registers.values[count - 1] == 0)
         count--;
     for (place = 0; place < count; place++)
-        printf("%c%" PRIo16, place == 0 ? '\t' : ' ', call->registers[place]);
+        printf("%c%" PRIo16, place == 0 ? '\t' : ' ', call->registers.values[place]);
 }
 
 static void write_rows(const struct call *call)
 {
-    size_t place, listed = call->outcome[3] < MOST_PLACES ? (size_t)call->outcome[3] : MOST_PLACES;
+    size_t place, listed = call->outcome.rows < MOST_PLACES ? (size_t)call->outcome.rows : MOST_PLACES;
 
     printf(listed == 0 ? "\t-" : "\t");
     for (place = 0; place < listed; place++)
@@ -213,7 +213,6 @@ int main(void)
     static char line[65536];
     static struct call call;
     unsigned place = 0, number = 0;
-    int k;
 
     while (fgets(line, sizeof line, stdin) != NULL) {
         place++;
@@ -224,13 +223,11 @@ int main(void)
             fprintf(stderr, "line %u: not a case\n", place);
             return 2;
         }
-        for (k = 0; k < 4; k++)
-            call.outcome[k] = UINT64_MAX;
-        guavachisel_evaluate((const uint8_t *)call.text, call.bytes, call.memory, call.words, call.registers, call.budget, call.rows, call.places,
-                             call.outcome);
-        printf("%u", ++number);
-        for (k = 0; k < 4; k++)
-            printf("\t%" PRIu64, call.outcome[k]);
+        memset(&call.outcome, 0xff, sizeof call.outcome);
+        guavachisel_evaluate((const uint8_t *)call.text, call.bytes, call.memory, call.words, &call.registers, call.budget, call.rows, call.places,
+                             &call.outcome);
+        printf("%u\t%" PRIu64 "\t%" PRIu64 "\t%" PRIu64 "\t%" PRIu64, ++number, call.outcome.refusal, steps_or_place(&call.outcome, 0), call.outcome.reason,
+               call.outcome.rows);
         write_registers(&call);
         write_rows(&call);
         write_memory(&call);

@@ -1,6 +1,6 @@
 /*
- * Runs guavachisel_read on the texts of standard input and writes one line for each: the text's number in the list, from 1, and the two numbers
- * of the outcome, parted by TABs.
+ * Runs guavachisel_read on the texts of standard input and writes one line for each: the text's number in the list, from 1, refusal
+ * and line, parted by TABs.
  *
  * A text is one line. In it \t stands for TAB, \n for LF, \\ for a backslash, \xHH for the byte with these two hexadecimal digits, and \{N:..} for
  * N times what stands between the colon and the brace; that may hold all these forms again, and \x7D for a brace. Other characters stand for
@@ -14,7 +14,7 @@
 #include <stdlib.h>
 #include <string.h>
 
-#include "guavachisel.h"
+#include "../outcome.h"
 
 #define MOST_BYTES 1000000
 
@@ -99,7 +99,7 @@ int main(void)
 {
     static char line[65536];
     static struct text text;
-    uint64_t outcome[2];
+    guavachisel_outcome outcome;
     unsigned place = 0, number = 0;
 
     while (fgets(line, sizeof line, stdin) != NULL) {
@@ -113,9 +113,9 @@ int main(void)
         }
         /* so that a reader that goes past the end finds the LF that a text may lack */
         text.bytes[text.length] = '\n';
-        outcome[0] = outcome[1] = UINT64_MAX;
-        guavachisel_read(text.bytes, text.length, outcome);
-        printf("%u\t%" PRIu64 "\t%" PRIu64 "\n", ++number, outcome[0], outcome[1]);
+        memset(&outcome, 0xff, sizeof outcome);
+        guavachisel_read(text.bytes, text.length, &outcome);
+        printf("%u\t%" PRIu64 "\t%" PRIu64 "\n", ++number, outcome.refusal, steps_or_place(&outcome, outcome.steps | outcome.reason | outcome.rows));
     }
     return 0;
 }

@@ -1,6 +1,6 @@
 /*
  * What the header says beside what the other tests try: the version, NULL with length 0, the room of a shipped description, and that what an entry doesn't speak of
- * is 0. It is compiled as C99, C11 and C++17. The first argument is the shipped description's file. Writes a line for each thing that isn't so; the exit status is 0
+ * is 0. It is compiled as C and as C++. The first argument is the shipped description's file. Writes a line for each thing that isn't so; the exit status is 0
  * if none is.
  */
 #include <stdio.h>

@@ -1,5 +1,5 @@
 /*
- * The layout of every struct of the header, and the value of every constant, as the proved functions have them. It only has to compile, as C99, C11 and C++17.
+ * The layout of every struct of the header, and the value of every constant, as the proved functions have them. It only has to compile, as C and as C++.
  */
 #include "guavachisel.h"
 

@@ -1,4 +1,4 @@
--- What `guavachisel_shipped` yields to a C caller: a shipped description in the caller's room.
+-- What `guavachisel_shipped` yields to a C caller: a shipped description in the caller's room. Quoted is include/guavachisel.h.
 -- Assumes nothing.
 use mathlib.Core.Path.{_≡_}
 use mathlib.Core.List.{List, [], _++_}
@@ -17,11 +17,11 @@ plain = 0
 unfoldable pub shippedOf : ℕ → List ℕ
 shippedOf which = pick (eqb which plain) shippedText []
 
--- "it is written only where it fits (room equal to its length does), else nothing is; room past it stays"
+-- "to the first bytes of `text`, if it fits into the `room` bytes there; else, and behind it, they stay as they came"
 unfoldable pub written : List ℕ → List ℕ → List ℕ
 written text room = pick (leb (length text) (length room)) (text ++ drop (length text) room) room
 
--- everything after the call: the room, and the outcome, which speaks of the text's length
+-- everything after the call: the room, and the outcome, which speaks of the description's length
 pub record Shipped (which : ℕ) (room room′ out′ : List ℕ) : Type 0 where
   pub text : room′ ≡ written (shippedOf which) room
   pub outcome : out′ ≡ places (answered (length (shippedOf which)))

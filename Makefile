@@ -38,7 +38,7 @@ install: all
 	install -m 755 programs/front $(programs) '$(libexec)'
 	sed 's|@PREFIX@|$(PREFIX)|; s|@VERSION@|$(version)|' include/guavachisel.pc.in >'$(lib)/pkgconfig/guavachisel.pc'
 	for program in listing explain; do \
-	    printf '#!/bin/sh\nexec "%s/front" %s "%s/%s" "$$@"\n' \
+	    printf '#!/bin/sh\nexec "%s/front" guavachisel-%s "%s/%s" "$$@"\n' \
 	        '$(PREFIX)/libexec/guavachisel' $$program '$(PREFIX)/libexec/guavachisel' $$program >"$(bin)/guavachisel-$$program" && \
 	    chmod 755 "$(bin)/guavachisel-$$program" || exit 1; \
 	done

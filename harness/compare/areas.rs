@@ -5,14 +5,17 @@ use crate::damage::damage;
 use crate::edges::{edges, Edge};
 use crate::images;
 use crate::limits::{limits, Limit};
+use crate::programs::Program;
+use crate::questions;
 use crate::random::Random;
 use crate::states::{spoil, State};
 use crate::texts;
 use independent::description::description;
 use independent::machine::WIDTHS;
+use std::sync::Arc;
 
 /// An area's name, and how many cases of it one run tries.
-pub const AREAS: [(&str, u64); 10] = [
+pub const AREAS: [(&str, u64); 12] = [
     ("emulate", 50_000),
     ("emulate-state", 12_000),
     ("limits", 0),
@@ -23,20 +26,34 @@ pub const AREAS: [(&str, u64); 10] = [
     ("damaged-limits", 12_000),
     ("evaluate-state", 20_000),
     ("shipped", 6_000),
+    ("listing", 1_000),
+    ("explain", 4096 + 3_000),
 ];
-/// The listing's cases are made in listings.rs; their numbers come after those of the areas.
-pub const LISTING: usize = AREAS.len();
 
 pub struct Maker {
     pub seed: u64,
     pub shipped: Vec<u8>,
+    pub listing: Arc<Program>,
+    pub explain: Arc<Program>,
     pub limits: Vec<Limit>,
     pub edges: Vec<Edge>,
 }
 
 impl Maker {
-    pub fn new(seed: u64, shipped: Vec<u8>) -> Maker {
-        Maker { seed, shipped, limits: limits(), edges: edges() }
+    /// With the paths of the two programs.
+    pub fn new(seed: u64, shipped: Vec<u8>, listing: &str, explain: &str) -> Maker {
+        let program = |name, path: &str| Arc::new(Program { name, path: path.to_string(), shipped: shipped.clone() });
+        let (listing, explain) = (program("listing", listing), program("explain", explain));
+        Maker { seed, shipped, listing, explain, limits: limits(), edges: edges() }
+    }
+
+    /// The program that an area is about, if it is about one.
+    pub fn program(&self, area: usize) -> Option<&Program> {
+        match AREAS[area].0 {
+            "listing" => Some(&self.listing),
+            "explain" => Some(&self.explain),
+            _ => None,
+        }
     }
 
     /// How many cases an area has, at so many percent of the usual; each limit and edge is tried once.
@@ -94,6 +111,9 @@ impl Maker {
                 vec![bad_evaluation(r, text)]
             }
             "shipped" => vec![Case::Shipped(shipped(r, &self.shipped))],
+            "listing" => vec![Case::Print(self.listing.clone(), questions::image(r))],
+            "explain" if case < 4096 => vec![Case::Print(self.explain.clone(), questions::one_word(r, case as u16))],
+            "explain" => vec![Case::Print(self.explain.clone(), questions::question(r))],
             name => unreachable!("no area {}", name),
         }
     }

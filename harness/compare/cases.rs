@@ -3,6 +3,8 @@
 use crate::coverage::Coverage;
 use crate::entries;
 use crate::images::Start;
+use crate::programs::{self, Program};
+use std::sync::Arc;
 
 /// What the evaluator is called with.
 #[derive(Clone)]
@@ -23,6 +25,8 @@ pub enum Case {
     Evaluate(EvaluateStart),
     /// The shipped description, by the evaluator and by the emulator.
     Shipped(EvaluateStart),
+    /// A program and its input.
+    Print(Arc<Program>, Vec<u8>),
 }
 
 /// What is different, if anything is.
@@ -39,6 +43,7 @@ pub fn difference(case: &Case, coverage: &mut Coverage) -> Option<String> {
         }
         Case::Evaluate(start) => evaluated(start, coverage),
         Case::Shipped(start) => shipped(start, coverage),
+        Case::Print(program, input) => programs::difference(program, input, coverage),
     }
 }
 

@@ -10,10 +10,14 @@ pub struct Coverage {
     counts: BTreeMap<String, u64>,
     /// How often each instruction word was executed.
     words: Vec<u64>,
+    /// How often each was the last one of an explanation.
+    explained: Vec<u64>,
     /// Addresses that the run stored to.
     stored: Vec<bool>,
+    /// The address that the last store went to, if no step began after it.
+    just_stored: Option<u16>,
     /// How often each of EVENTS happened.
-    events: [u64; 7],
+    events: [u64; 8],
 }
 
 /// Places in EVENTS.
@@ -24,8 +28,9 @@ const SKIP: usize = 3;
 const INTERRUPT: usize = 4;
 const LAST_WORD: usize = 5;
 const BESIDE_POINTERS: usize = 6;
+const JUST_REWRITTEN: usize = 7;
 
-const EVENTS: [&str; 7] = [
+const EVENTS: [&str; 8] = [
     "a page taken from the last word of a page",
     "a pointer increased",
     "a word rewritten by the run executed",
@@ -33,11 +38,12 @@ const EVENTS: [&str; 7] = [
     "an interrupt",
     "PC from 7777 to 0000",
     "an indirect 0007 or 0020",
+    "a word rewritten by the step before executed",
 ];
 
 impl Coverage {
     pub fn new() -> Coverage {
-        Coverage { counts: BTreeMap::new(), words: vec![0; 4096], stored: vec![false; 4096], events: [0; 7] }
+        Coverage { counts: BTreeMap::new(), words: vec![0; 4096], explained: vec![0; 4096], stored: vec![false; 4096], just_stored: None, events: [0; 8] }
     }
 
     pub fn count(&mut self, name: &str) {
@@ -55,12 +61,14 @@ impl Coverage {
             *self.counts.entry(name.clone()).or_insert(0) += count;
         }
         self.words.iter_mut().zip(&other.words).for_each(|(own, count)| *own += count);
+        self.explained.iter_mut().zip(&other.explained).for_each(|(own, count)| *own += count);
         self.events.iter_mut().zip(&other.events).for_each(|(own, count)| *own += count);
     }
 
     /// Before each run, so that rewritten words are told from the others.
     pub fn new_run(&mut self) {
         self.stored.iter_mut().for_each(|s| *s = false);
+        self.just_stored = None;
     }
 
     pub fn refusal(&mut self, entry: &str, number: u64) {
@@ -76,6 +84,24 @@ impl Coverage {
             _ => "spent",
         };
         self.count(&format!("{} by {}", name, entry));
+    }
+
+    /// What a program printed.
+    pub fn printed(&mut self, program: &str, text: &str) {
+        let fields: Vec<Vec<&str>> = text.lines().map(|line| line.split('\t').collect()).collect();
+        let lines = |word: &str| fields.iter().filter(|line| line[0] == word).count();
+        if lines("refused") > 0 {
+            return self.count(&format!("refused by {}", program));
+        }
+        if let Some(end) = fields.iter().find(|line| line[0] == "end") {
+            self.count(&format!("{} by {}", if end[1] == "0" { "no step" } else { end[2] }, program));
+        }
+        if program == "explain" {
+            self.count(&format!("{} words changed by the last step", lines("word").min(2)));
+        }
+        if let Some(last) = fields.iter().find(|line| line[0] == "last") {
+            self.explained[usize::from_str_radix(last[2], 8).unwrap_or(0)] += 1;
+        }
     }
 
     /// What the rows that acted hold.
@@ -137,6 +163,7 @@ impl Coverage {
     pub fn missing(&self) -> Vec<String> {
         let mut missing: Vec<String> = required().into_iter().filter(|name| !self.counts.contains_key(name)).collect();
         missing.extend((0..4096).filter(|i| self.words[*i] == 0).map(|i| format!("instruction {:04o}", i)));
+        missing.extend((0..4096).filter(|i| self.explained[*i] == 0).map(|i| format!("instruction {:04o} explained", i)));
         missing.extend((0..EVENTS.len()).filter(|i| self.events[*i] == 0).map(|i| EVENTS[i].to_string()));
         missing
     }
@@ -156,7 +183,7 @@ impl Coverage {
 
     /// The things to be tried, and how many steps were watched.
     pub fn totals(&self) -> (usize, u64) {
-        (required().len() + 4096 + EVENTS.len(), self.words.iter().sum())
+        (required().len() + 2 * 4096 + EVENTS.len(), self.words.iter().sum())
     }
 }
 
@@ -190,6 +217,15 @@ fn required() -> Vec<String> {
             names.push(format!("{} by {}", ending, entry));
         }
     }
+    for ending in ["refused by listing", "halted by listing", "spent by listing"] {
+        names.push(ending.to_string());
+    }
+    for ending in ["refused by explain", "no step by explain", "halted by explain", "spent by explain"] {
+        names.push(ending.to_string());
+    }
+    for words in ["0", "1", "2"] {
+        names.push(format!("{} words changed by the last step", words));
+    }
     for operator in ["Not", "@", "Slr", "Srr", "+", "Eql", "Neq", "Lss", "And", "Or"] {
         names.push(format!("operator {}", operator));
     }
@@ -215,13 +251,17 @@ impl Watch for Coverage {
             Event::Fetched(pc, i) => {
                 self.words[i as usize] += 1;
                 self.events[REWRITTEN] += u64::from(self.stored[pc as usize]);
+                self.events[JUST_REWRITTEN] += u64::from(self.just_stored.take() == Some(pc));
                 self.events[LAST_WORD] += u64::from(pc == 0o7777);
                 let first = i & 0o177;
                 self.events[BESIDE_POINTERS] += u64::from(i < 0o6000 && i & 0o600 == 0o400 && (first == 0o7 || first == 0o20));
             }
             Event::PageEnd => self.events[OWN_PAGE_END] += 1,
             Event::AutoIndexed(_) => self.events[POINTER_INCREASED] += 1,
-            Event::Stored(address) => self.stored[address as usize] = true,
+            Event::Stored(address) => {
+                self.stored[address as usize] = true;
+                self.just_stored = Some(address);
+            }
             Event::Skipped => self.events[SKIP] += 1,
             Event::Interrupted => self.events[INTERRUPT] += 1,
         }

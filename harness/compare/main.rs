@@ -1,7 +1,7 @@
-//! Compares the C entries of the library that this program is linked with, and the listing program, with the independent Rust
-//! implementation.
-//! Usage: compare DESCRIPTION LISTING SEED [--coverage] [--scale PERCENT] [--only AREA [CASE]]
-//! LISTING may be `-`. Ends with status 1 at the first difference, and if anything that has to be tried was not.
+//! Compares the C entries of the library that this program is linked with, and the programs listing and explain, with the
+//! independent Rust implementation.
+//! Usage: compare DESCRIPTION LISTING EXPLAIN SEED [--coverage] [--scale PERCENT] [--only AREA[,AREA..] [CASE]]
+//! Ends with status 1 at the first difference, where a program is not there, and if anything that has to be tried was not.
 
 mod areas;
 mod cases;
@@ -14,7 +14,8 @@ mod images;
 #[path = "../library.rs"]
 mod library;
 mod limits;
-mod listings;
+mod programs;
+mod questions;
 mod random;
 mod shrink;
 mod states;
@@ -26,18 +27,17 @@ use std::ops::Range;
 use std::process::exit;
 use std::sync::Mutex;
 
-const LISTINGS: u64 = 400;
-
 /// Held by the one run that reports a difference.
 static REPORT: Mutex<()> = Mutex::new(());
 
 struct Options {
     description: String,
     listing: String,
+    explain: String,
     seed: u64,
     coverage: bool,
     scale: u64,
-    area: Option<String>,
+    areas: Option<Vec<String>>,
     case: Option<u64>,
 }
 
@@ -46,10 +46,11 @@ fn options() -> Option<Options> {
     let mut options = Options {
         description: words.next()?,
         listing: words.next()?,
+        explain: words.next()?,
         seed: words.next()?.parse().ok()?,
         coverage: false,
         scale: 100,
-        area: None,
+        areas: None,
         case: None,
     };
     while let Some(word) = words.next() {
@@ -57,7 +58,7 @@ fn options() -> Option<Options> {
             "--coverage" => options.coverage = true,
             "--scale" => options.scale = words.next()?.parse().ok()?,
             "--only" => {
-                options.area = Some(words.next()?);
+                options.areas = Some(words.next()?.split(',').map(str::to_string).collect());
                 options.case = words.next().map(|c| c.parse().unwrap_or(0));
             }
             _ => return None,
@@ -120,19 +121,9 @@ fn compare_cases(maker: &Maker, area: usize, range: Range<u64>) -> (u64, Coverag
     (compared, coverage)
 }
 
-fn compare_listings(options: &Options, range: Range<u64>) -> u64 {
-    let count = range.end - range.start;
-    for number in range {
-        if let Some(found) = listings::difference(&options.listing, options.seed, number) {
-            fail("listing", options.seed, number, &found);
-        }
-    }
-    count
-}
-
 fn main() {
     let options = options().unwrap_or_else(|| {
-        eprintln!("usage: compare DESCRIPTION LISTING SEED [--coverage] [--scale PERCENT] [--only AREA [CASE]]");
+        eprintln!("usage: compare DESCRIPTION LISTING EXPLAIN SEED [--coverage] [--scale PERCENT] [--only AREA[,AREA..] [CASE]]");
         exit(2)
     });
     let shipped = std::fs::read(&options.description).unwrap_or_else(|error| {
@@ -140,21 +131,29 @@ fn main() {
         exit(2)
     });
     std::panic::set_hook(Box::new(|_| {}));
-    let maker = Maker::new(options.seed, shipped);
+    let maker = Maker::new(options.seed, shipped, &options.listing, &options.explain);
     let mut coverage = Coverage::new();
     let mut counts = Vec::new();
-    let wanted = |name: &str| options.area.as_deref().map_or(true, |only| only == name);
-    for (area, (name, _)) in AREAS.iter().enumerate() {
-        if wanted(name) {
-            let range = options.case.map_or(0..maker.count(area, options.scale), |case| case..case + 1);
-            counts.push(format!("{} {}", name, compare_area(&maker, area, range, &mut coverage)));
-        }
-    }
-    if wanted("listing") && options.listing != "-" {
-        let range = options.case.map_or(0..LISTINGS * options.scale / 100, |case| case..case + 1);
-        counts.push(format!("listing {}", compare_listings(&options, range)));
+    for area in wanted(&maker, &options) {
+        let range = options.case.map_or(0..maker.count(area, options.scale), |case| case..case + 1);
+        counts.push(format!("{} {}", AREAS[area].0, compare_area(&maker, area, range, &mut coverage)));
     }
     finish(&options, &coverage, &counts);
+}
+
+/// The areas that are asked for, all if none is named. An area that there is not, or whose program is not built, ends the run.
+fn wanted(maker: &Maker, options: &Options) -> Vec<usize> {
+    let named = |name: &str| options.areas.as_ref().map_or(true, |areas| areas.iter().any(|area| area == name));
+    if let Some(unknown) = options.areas.iter().flatten().find(|area| !AREAS.iter().any(|(name, _)| name == area)) {
+        println!("there is no area {}", unknown);
+        exit(2);
+    }
+    let areas: Vec<usize> = (0..AREAS.len()).filter(|area| named(AREAS[*area].0)).collect();
+    if let Some(program) = areas.iter().filter_map(|area| maker.program(*area)).find(|program| !program.is_built()) {
+        println!("not compared: {} is not built", program.path);
+        exit(1);
+    }
+    areas
 }
 
 /// The line of counts; status 1 if anything was never tried, unless only a part was asked for.
@@ -163,7 +162,7 @@ fn finish(options: &Options, coverage: &Coverage, counts: &[String]) {
         coverage.print();
     }
     let (things, steps) = coverage.totals();
-    if options.area.is_some() {
+    if options.areas.is_some() {
         println!("no difference: {}; seed {}", counts.join(", "), options.seed);
         return;
     }

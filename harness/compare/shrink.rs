@@ -57,18 +57,19 @@ fn text(case: &mut Case) -> Option<&mut Vec<u8>> {
     match case {
         Case::Read(text) => Some(text),
         Case::Evaluate(start) => Some(&mut start.text),
+        Case::Print(_, input) => Some(input),
         _ => None,
     }
 }
 
-/// Drops lines, the first aside, while the case still differs.
+/// Drops lines, a description's first aside, while the case still differs.
 fn shrink_text(case: &mut Case) {
     let lines: Vec<Vec<u8>> = match text(case) {
         Some(t) => t.split_inclusive(|b| *b == b'\n').map(|line| line.to_vec()).collect(),
         None => return,
     };
     let mut kept = lines;
-    let mut at = 1;
+    let mut at = if matches!(case, Case::Print(..)) { 0 } else { 1 };
     while at < kept.len() {
         let mut fewer = kept.clone();
         fewer.remove(at);
@@ -121,7 +122,7 @@ fn shrink_memory(case: &mut Case) {
 pub fn print(case: &Case) {
     match case {
         Case::Emulate(start) => print_state(&start.memory, &start.registers, start.budget),
-        Case::Read(text) | Case::Known(text, _) => print_text(text),
+        Case::Read(text) | Case::Known(text, _) | Case::Print(_, text) => print_text(text),
         Case::Evaluate(start) => {
             print_text(&start.text);
             print_state(&start.memory, &start.registers, start.budget);

@@ -1,17 +1,19 @@
 //! Document 01 in plain Rust, written from the document alone: it shares no code and no tables with the Rattle sources.
-//! `emulate`, `read` and `evaluate` answer as the C entries of include/guavachisel.h do; `listing` is the day listing.
+//! `emulate`, `read` and `evaluate` answer as the C entries of include/guavachisel.h do; `listing` is the day listing, and
+//! `explain` the desk's program, which README.md and docs/DECISIONS.md describe.
 
-pub mod compile;
-pub mod cycle;
 pub mod description;
 pub mod emulate;
 pub mod evaluate;
+pub mod explain;
 pub mod expression;
 pub mod lines;
 pub mod listing;
 pub mod machine;
 pub mod memory_reference;
+pub mod mnemonic;
 pub mod operate;
+pub mod rows;
 pub mod state;
 pub mod tokens;
 pub mod watch;
@@ -19,4 +21,5 @@ pub mod watch;
 pub use description::read;
 pub use emulate::emulate;
 pub use evaluate::evaluate;
+pub use explain::explain;
 pub use listing::listing;

@@ -5,8 +5,8 @@ use crate::watch::Unwatched;
 
 const STEPS: u32 = 16;
 
-/// Four octal digits.
-fn octal(digits: &[u8]) -> Option<u16> {
+/// The value of octal digits, at most five of them.
+pub fn octal(digits: &[u8]) -> Option<u16> {
     let mut value = 0;
     for digit in digits {
         if !(b'0'..=b'7').contains(digit) {
@@ -18,7 +18,7 @@ fn octal(digits: &[u8]) -> Option<u16> {
 }
 
 /// Address, TAB, word.
-fn image_line(line: &[u8]) -> Option<(u16, u16)> {
+pub fn image_line(line: &[u8]) -> Option<(u16, u16)> {
     if line.len() != 9 || line[4] != b'\t' {
         return None;
     }

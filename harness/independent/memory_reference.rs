@@ -3,17 +3,23 @@
 use crate::machine::{increased, store, word_at, Machine, Memory};
 use crate::watch::{Event, Watch};
 
+/// The page number and the page address, joined.
+#[inline(always)]
+pub fn first_address(i: u16, last_pc: u16) -> u16 {
+    let own_page = i & 0o200 != 0;
+    let page = if own_page { last_pc & 0o7600 } else { 0 };
+    let page_address = i & 0o177;
+    page | page_address
+}
+
 /// e of an instruction of ops 0 to 5. Auto-indexing may change a word on the way.
 #[inline(always)]
 fn effective_address<W: Watch>(memory: &mut Memory, i: u16, last_pc: u16, watch: &mut W) -> u16 {
-    let indirect = i & 0o400 != 0;
-    let own_page = i & 0o200 != 0;
-    let page_address = i & 0o177;
-    let page = if own_page { last_pc & 0o7600 } else { 0 };
-    if own_page && last_pc & 0o177 == 0o177 {
+    if i & 0o200 != 0 && last_pc & 0o177 == 0o177 {
         watch.saw(Event::PageEnd);
     }
-    let first = page | page_address;
+    let first = first_address(i, last_pc);
+    let indirect = i & 0o400 != 0;
     if !indirect {
         return first;
     }

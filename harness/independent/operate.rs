@@ -5,7 +5,7 @@ use crate::watch::{Event, Watch};
 
 /// Bit n of an instruction, bit 0 the leftmost of 12.
 #[inline(always)]
-fn bit(i: u16, n: u32) -> bool {
+pub fn bit(i: u16, n: u32) -> bool {
     i >> (11 - n) & 1 == 1
 }
 

@@ -1,4 +1,4 @@
 # A sum loses its bits above 12.
-# area: shipped
-# file: cycle.rs
-s/slots.value(a).wrapping_add(slots.value(b))/slots.value(a).wrapping_add(slots.value(b)) \& WORD/
+# areas: shipped
+# file: harness/independent/rows.rs
+s/Binary::Add => left + right/Binary::Add => left + right \& WORD/

@@ -1,4 +1,4 @@
 # Bit 0 is the rightmost bit.
-# area: texts
-# file: compile.rs
+# areas: texts
+# file: harness/independent/rows.rs
 s/part.of - 1 - part.last/part.first/g

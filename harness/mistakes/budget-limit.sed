@@ -1,4 +1,4 @@
 # A budget of 1,000,000 is turned down.
-# area: edges
-# file: state.rs
+# areas: edges
+# file: harness/independent/state.rs
 s/budget > BUDGET/budget >= BUDGET/

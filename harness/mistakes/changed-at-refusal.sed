@@ -1,4 +1,4 @@
 # A refusal clears PC.
-# area: emulate-state
-# file: emulate.rs
+# areas: emulate-state
+# file: harness/independent/emulate.rs
 s/Err(refusal) => \[refusal.number, refusal.place, 0\],/Err(refusal) => {\n            registers[1] = 0;\n            [refusal.number, refusal.place, 0]\n        }/

@@ -1,4 +1,4 @@
 # A decimal has its shortest form's bits.
-# area: texts
-# file: tokens.rs
+# areas: texts
+# file: harness/independent/tokens.rs
 s/shortest + 1/shortest/

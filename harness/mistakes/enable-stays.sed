@@ -1,4 +1,4 @@
 # An interrupt leaves INTERRUPT.ENABLE at 1.
-# area: emulate
-# file: machine.rs
+# areas: emulate
+# file: harness/independent/machine.rs
 /^fn interrupt_test/,/^}/s/machine.interrupt_enable = 0;//

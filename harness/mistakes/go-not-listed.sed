@@ -1,4 +1,4 @@
 # A go that acts is not listed.
-# area: shipped
-# file: cycle.rs
-/fn go_row/,/^    }/s/self.add(test.row);//
+# areas: shipped
+# file: harness/independent/rows.rs
+s/acted.push(at as u8);/if matches!(row, Row::Do { .. }) {\n            acted.push(at as u8);\n        }/

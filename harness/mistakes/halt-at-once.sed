@@ -1,4 +1,4 @@
 # A row that clears the first register, which may be RUN, ends the cycle.
-# area: texts
-# file: cycle.rs
-s/_ => assign(entry, slots, memory),/_ => {\n                assign(entry, slots, memory);\n                if matches!(entry, Entry::Copy { to: 0, .. }) \&\& slots.get(0) == 0 {\n                    return;\n                }\n            }/
+# areas: texts
+# file: harness/independent/rows.rs
+s/=> assign(destination, expression, registers, memory),/=> {\n                assign(destination, expression, registers, memory);\n                if matches!(destination, Destination::Part(part) if part.register == 0) \&\& registers[0] == 0 {\n                    return acted;\n                }\n            }/

@@ -1,4 +1,4 @@
 # The highest offending word is told, not the lowest.
-# area: emulate-state
-# file: state.rs
+# areas: emulate-state
+# file: harness/independent/state.rs
 s/memory.iter().position/memory.iter().rposition/

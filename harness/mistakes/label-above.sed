@@ -1,4 +1,4 @@
 # A go may lead up.
-# area: damaged
-# file: description.rs
+# areas: damaged
+# file: harness/independent/description.rs
 s/ \&\& l.line > go.line//

@@ -1,4 +1,4 @@
 # The last line's LF may be missing.
-# area: damaged
-# file: lines.rs
+# areas: damaged
+# file: harness/independent/lines.rs
 s/found.push(Line { number, bytes: None });/found.push(Line { number, bytes: Some(\&text[start..]) });/

@@ -1,4 +1,4 @@
 # Leading zeros pass.
-# area: damaged
-# file: lines.rs
+# areas: damaged
+# file: harness/independent/lines.rs
 s/ || digits.len() > 1 \&\& digits\[0\] == b'0'//

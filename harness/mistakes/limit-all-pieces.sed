@@ -1,4 +1,4 @@
 # 1,025 pieces pass.
-# area: limits
-# file: description.rs
+# areas: limits
+# file: harness/independent/description.rs
 s/ALL_PIECES: usize = 1024/ALL_PIECES: usize = 1025/

@@ -1,4 +1,4 @@
 # 33 labels pass.
-# area: limits
-# file: description.rs
+# areas: limits
+# file: harness/independent/description.rs
 s/LABELS: usize = 32/LABELS: usize = 33/

@@ -1,4 +1,4 @@
 # Nesting to 9 passes.
-# area: limits
-# file: expression.rs
+# areas: limits
+# file: harness/independent/expression.rs
 s/DEEPEST: usize = 8/DEEPEST: usize = 9/

@@ -1,4 +1,4 @@
 # 33 pieces in an expression pass.
-# area: limits
-# file: expression.rs
+# areas: limits
+# file: harness/independent/expression.rs
 s/PIECES: usize = 32/PIECES: usize = 33/

@@ -1,4 +1,4 @@
 # The 16th register is turned down.
-# area: limits
-# file: description.rs
+# areas: limits
+# file: harness/independent/description.rs
 s/REGISTERS: usize = 16/REGISTERS: usize = 15/

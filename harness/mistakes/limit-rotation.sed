@@ -1,4 +1,4 @@
 # A rotation by 16 places passes.
-# area: limits
-# file: expression.rs
+# areas: limits
+# file: harness/independent/expression.rs
 s/decimal(run, 15)/decimal(run, 16)/

@@ -1,4 +1,4 @@
 # The 128th row is turned down.
-# area: limits
-# file: description.rs
+# areas: limits
+# file: harness/independent/description.rs
 s/ROWS: usize = 128/ROWS: usize = 127/

@@ -1,4 +1,4 @@
 # 16,385 bytes pass.
-# area: limits
-# file: description.rs
+# areas: limits
+# file: harness/independent/description.rs
 s/16384/16385/

@@ -1,4 +1,4 @@
 # A width of 17 passes.
-# area: limits
-# file: expression.rs
+# areas: limits
+# file: harness/independent/expression.rs
 s/WIDEST: u8 = 16/WIDEST: u8 = 17/

@@ -1,4 +1,4 @@
 # LAC is printed in four digits.
-# area: listing
-# file: listing.rs
+# areas: listing
+# file: harness/independent/listing.rs
 s/:05o/:04o/

@@ -1,4 +1,4 @@
 # The word shown is the one there after the step.
-# area: listing
-# file: listing.rs
+# areas: listing
+# file: harness/independent/listing.rs
 s/page += \&format!/let i = word_at(\&memory, pc);\n        page += \&format!/

@@ -1,4 +1,4 @@
 # The page is formed from the increased PC.
-# area: emulate
-# file: machine.rs
+# areas: emulate
+# file: harness/independent/machine.rs
 s/let last_pc = machine.pc;/let last_pc = increased(machine.pc);/

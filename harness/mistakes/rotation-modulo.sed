@@ -1,4 +1,4 @@
 # A rotation count is not taken modulo the width.
-# area: texts
-# file: compile.rs
-s/count % width/(*count).min(width)/
+# areas: texts
+# file: harness/independent/rows.rs
+s/count % width/count.min(width)/

@@ -1,4 +1,4 @@
 # A row list of 127 places passes.
-# area: evaluate-state
-# file: evaluate.rs
+# areas: evaluate-state
+# file: harness/independent/evaluate.rs
 s/rows.len() < ROW_PLACES/rows.len() < ROW_PLACES - 1/

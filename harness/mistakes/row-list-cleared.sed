@@ -1,4 +1,4 @@
 # Places after the rows that acted are cleared.
-# area: shipped
-# file: evaluate.rs
-s/    let mut steps = 0;/    let mut steps = 0;\n    rows.fill(0);/
+# areas: shipped
+# file: harness/independent/evaluate.rs
+s/rows\[..acted.len()\].copy_from_slice/rows.fill(0);\n            rows[..acted.len()].copy_from_slice/

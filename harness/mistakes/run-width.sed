@@ -1,4 +1,4 @@
 # RUN may be wider than 1.
-# area: damaged
-# file: description.rs
+# areas: damaged
+# file: harness/independent/description.rs
 s/ \&\& r.width == 1//

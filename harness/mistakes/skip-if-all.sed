@@ -1,4 +1,4 @@
 # With bit 8 a skip needs all selected conditions, not any.
-# area: words
-# file: operate.rs
+# areas: words
+# file: harness/independent/operate.rs
 s/none_selected || bit(i, 5) \&\& !negative || bit(i, 6) \&\& !zero || bit(i, 7) \&\& !link/none_selected || !(bit(i, 5) \&\& negative || bit(i, 6) \&\& zero || bit(i, 7) \&\& link)/

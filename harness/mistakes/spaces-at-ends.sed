@@ -1,4 +1,4 @@
 # A space may stand before an expression.
-# area: damaged
-# file: tokens.rs
+# areas: damaged
+# file: harness/independent/tokens.rs
 s/if field.first() == Some(&b' ') ||/if /

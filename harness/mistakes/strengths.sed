@@ -1,4 +1,4 @@
 # Or is stronger than And.
-# area: texts
-# file: expression.rs
+# areas: texts
+# file: harness/independent/expression.rs
 s/(Binary::And, 2)/(Binary::And, 1)/;s/(Binary::Or, 1)/(Binary::Or, 2)/

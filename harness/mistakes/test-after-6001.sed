@@ -1,4 +1,4 @@
 # 6001 does not omit its step's interrupt test.
-# area: emulate
-# file: machine.rs
+# areas: emulate
+# file: harness/independent/machine.rs
 /return; \/\/ this/d

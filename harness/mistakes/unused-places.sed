@@ -1,4 +1,4 @@
 # Unused register places are not looked at.
-# area: evaluate-state
-# file: state.rs
+# areas: evaluate-state
+# file: harness/independent/state.rs
 s/registers.iter().enumerate()/registers.iter().take(widths.len()).enumerate()/

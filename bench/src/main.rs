@@ -1,4 +1,4 @@
-//! The library's speed beside SIMH's pdp8 and the independent Rust implementation, all sides in turns in one run, as Markdown tables.
+//! The library's speed beside SIMH's pdp8 and the rival in Rust (bench/rival), all sides in turns in one run, as Markdown tables.
 //! Usage: bench WORK DESCRIPTION ROUNDS PERCENT (WORK: a folder for SIMH's command file; PERCENT: how much of the full work each turn does)
 
 mod entries;
@@ -85,7 +85,7 @@ fn program_rates(bench: &Bench, program: &Program) -> [f64; 5] {
     let (emulated, evaluated) = (bench.calls(100), bench.calls(5));
     for _ in 0..bench.rounds {
         let (library, end) = emulator_rate(entries::emulate, program, emulated, CALL);
-        let (rust, rust_end) = emulator_rate(independent::emulate, program, emulated, CALL);
+        let (rust, rust_end) = emulator_rate(rival::emulate, program, emulated, CALL);
         must_agree(program.name, end == rust_end);
         rates[0].push(library);
         rates[2].push(rust);
@@ -96,7 +96,7 @@ fn program_rates(bench: &Bench, program: &Program) -> [f64; 5] {
             }
         }
         let (library, end) = evaluator_rate(entries::evaluate, &bench.description, program, evaluated, CALL);
-        let (rust, rust_end) = evaluator_rate(independent::evaluate, &bench.description, program, evaluated, CALL);
+        let (rust, rust_end) = evaluator_rate(rival::evaluate, &bench.description, program, evaluated, CALL);
         must_agree(program.name, end == rust_end);
         rates[3].push(library);
         rates[4].push(rust);
@@ -135,7 +135,7 @@ fn reader(bench: &Bench) {
         let calls = bench.calls(20_000_000 / text.len() as u64);
         for _ in 0..bench.rounds {
             rates[0].push(reader_rate(entries::read, &text, calls));
-            rates[1].push(reader_rate(independent::read, &text, calls));
+            rates[1].push(reader_rate(rival::read, &text, calls));
         }
         let (library, rust) = (best(&rates[0]), best(&rates[1]));
         println!("| {} | {:.1} | {:.1} | {} | {:.1} |", name, library, rust, ratio(library, rust), text.len() as f64 / library);
@@ -176,10 +176,10 @@ fn main() {
     let description = std::fs::read(&words[1]).unwrap_or_default();
     let bench = Bench { simh: Simh::new(&words[0]), description, rounds: words[2].parse().unwrap_or(5), percent: words[3].parse().unwrap_or(100) };
     println!("Machine: {}. Best of {} rounds, all sides in turns in one run, by processor time.", machine(), bench.rounds);
-    if bench.simh.is_none() {
-        println!("SIMH is not installed, so its column is empty.");
-    }
     engines(&bench);
     reader(&bench);
     growth(&bench);
+    if bench.simh.is_none() {
+        println!("\nNot measured: SIMH, which is not installed. Its column is empty.");
+    }
 }

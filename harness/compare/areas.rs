@@ -14,6 +14,9 @@ use independent::description::description;
 use independent::machine::WIDTHS;
 use std::sync::Arc;
 
+/// The number of the area `explain`'s first question of any kind, after one for each instruction word and for each unfit line.
+const FIRST_QUESTION: u64 = 4096 + questions::UNFIT as u64;
+
 /// An area's name, and how many cases of it one run tries.
 pub const AREAS: [(&str, u64); 12] = [
     ("emulate", 50_000),
@@ -27,7 +30,7 @@ pub const AREAS: [(&str, u64); 12] = [
     ("evaluate-state", 20_000),
     ("shipped", 6_000),
     ("listing", 1_000),
-    ("explain", 4096 + 3_000),
+    ("explain", FIRST_QUESTION + 3_000),
 ];
 
 pub struct Maker {
@@ -113,6 +116,7 @@ impl Maker {
             "shipped" => vec![Case::Shipped(shipped(r, &self.shipped))],
             "listing" => vec![Case::Print(self.listing.clone(), questions::image(r))],
             "explain" if case < 4096 => vec![Case::Print(self.explain.clone(), questions::one_word(r, case as u16))],
+            "explain" if case < FIRST_QUESTION => vec![Case::Print(self.explain.clone(), questions::unfit_question(r, case as usize - 4096))],
             "explain" => vec![Case::Print(self.explain.clone(), questions::question(r))],
             name => unreachable!("no area {}", name),
         }

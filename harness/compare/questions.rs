@@ -18,6 +18,9 @@ const UNFIT_LINES: [&[u8]; 40] = [
     b"skip\t0\n", b"at\topr\t35\n", b"1\tdo\t1\ti\tM[PC]\n",
 ];
 
+/// How many unfit lines there are.
+pub const UNFIT: usize = UNFIT_WORDS.len() + UNFIT_LINES.len();
+
 fn word(address: u16, word: u16) -> String {
     format!("{:04o}\t{:04o}\n", address, word)
 }
@@ -90,8 +93,8 @@ pub fn one_word(random: &mut Random, i: u16) -> Vec<u8> {
     lines.concat().into_bytes()
 }
 
-/// A question of any kind.
-pub fn question(random: &mut Random) -> Vec<u8> {
+/// The lines of a question of any kind.
+fn lines_of_question(random: &mut Random) -> Vec<String> {
     let state = images::machine(random);
     let mut from = 0o200;
     let mut lines = Vec::new();
@@ -119,17 +122,34 @@ pub fn question(random: &mut Random) -> Vec<u8> {
         let turned = random.below(lines.len() + 1);
         lines.rotate_left(turned);
     }
+    lines
+}
+
+/// A question of any kind, or a damaged one.
+pub fn question(random: &mut Random) -> Vec<u8> {
+    let lines = lines_of_question(random);
     let unfit: &[&[u8]] = if random.once_in(3) { &UNFIT_WORDS } else { &UNFIT_LINES };
     damaged(random, lines, unfit)
 }
 
-/// The lines as a text: with an unfit line between them, or a byte changed, or cut short, or as they are.
-fn damaged(random: &mut Random, mut lines: Vec<String>, unfit: &[&[u8]]) -> Vec<u8> {
+/// A question with an unfit line.
+pub fn unfit_question(random: &mut Random, number: usize) -> Vec<u8> {
+    let lines = lines_of_question(random);
+    broken(random, lines, if number < UNFIT_WORDS.len() { UNFIT_WORDS[number] } else { UNFIT_LINES[number - UNFIT_WORDS.len()] })
+}
+
+/// The lines as a text, with an unfit one between them.
+fn broken(random: &mut Random, mut lines: Vec<String>, unfit: &[u8]) -> Vec<u8> {
+    let at = random.below(lines.len() + 1);
+    let below = lines.split_off(at).concat();
+    [lines.concat().as_bytes(), unfit, below.as_bytes()].concat()
+}
+
+/// The lines as a text: with an unfit one between them, or a byte changed, or cut short, or as they are.
+fn damaged(random: &mut Random, lines: Vec<String>, unfit: &[&[u8]]) -> Vec<u8> {
     if random.once_in(3) {
-        let at = random.below(lines.len() + 1);
-        let below = lines.split_off(at).concat();
-        let between: &[u8] = *random.pick(unfit);
-        return [lines.concat().as_bytes(), between, below.as_bytes()].concat();
+        let line: &[u8] = *random.pick(unfit);
+        return broken(random, lines, line);
     }
     let mut text = lines.concat().into_bytes();
     if random.once_in(4) && !text.is_empty() {

@@ -97,7 +97,7 @@ impl Coverage {
             self.count(&format!("{} by {}", if end[1] == "0" { "no step" } else { end[2] }, program));
         }
         if program == "explain" {
-            self.count(&format!("{} words changed by the last step", lines("word").min(2)));
+            self.count(&format!("{} words changed by the last step", lines("word").min(3)));
         }
         if let Some(last) = fields.iter().find(|line| line[0] == "last") {
             self.explained[usize::from_str_radix(last[2], 8).unwrap_or(0)] += 1;
@@ -223,7 +223,7 @@ fn required() -> Vec<String> {
     for ending in ["refused by explain", "no step by explain", "halted by explain", "spent by explain"] {
         names.push(ending.to_string());
     }
-    for words in ["0", "1", "2"] {
+    for words in ["0", "1", "2", "3"] {
         names.push(format!("{} words changed by the last step", words));
     }
     for operator in ["Not", "@", "Slr", "Srr", "+", "Eql", "Neq", "Lss", "And", "Or"] {

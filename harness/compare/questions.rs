@@ -82,11 +82,15 @@ fn budget(random: &mut Random) -> String {
 
 /// One step of an instruction word, from any state that fits.
 pub fn one_word(random: &mut Random, i: u16) -> Vec<u8> {
-    let state = images::one_word(random, i);
+    let mut state = images::one_word(random, i);
+    if random.once_in(3) {
+        // an interrupt: one more word may change
+        state.registers[3..5].fill(1);
+    }
     let pc = state.registers[1];
     let page = if i & 0o200 != 0 { pc & 0o7600 } else { 0 };
     let first = page | i & 0o177;
-    let pointer = if random.once_in(2) { 0o7777 } else { random.bits(12) };
+    let pointer = if random.once_in(4) { 0o7777 } else { random.bits(12) };
     let mut lines = vec![word((pointer + 1) & 0o7777, random.bits(12)), word(pointer, random.bits(12)), word(first, pointer), word(pc, i)];
     lines.extend(registers(random, state.registers));
     lines.push("budget\t1\n".to_string());

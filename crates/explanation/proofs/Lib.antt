@@ -1,3 +1,4 @@
 pub mod Answers
 pub mod ByText
 pub mod Day
+pub mod LastLine

@@ -1,13 +1,14 @@
--- How a text is cut into lines: bytes without an LF go before the first line of what follows them.
+-- How a text is cut into lines: bytes without an LF go before the first line of what follows them, and whole lines stand apart from it.
 -- Assumes nothing.
-use mathlib.Core.Path.{_≡_, refl, ap}
-use mathlib.Core.Bool.{Bool, true, false}
-use mathlib.Core.List.{List, [], _∷_, _++_}
+use mathlib.Core.Path.{_≡_, refl, sym, ap, _∙_}
+use mathlib.Core.Bool.{Bool, true, false, _&&_, not}
+use mathlib.Core.List.{List, [], _∷_, _++_, append-assoc}
 use Prim.Native.Nat.{ℕ, suc, _+_, _≤_}
 use native.Mathlib.Omega.{arith}
 use lib.ListN.{length}
 use lib.Dec.{eqb}
 use Rattle.laws.proofs.Joined.{and-both}
+use Rattle.laws.proofs.Tests.{by-test}
 use Rattle.page.specs.Text.{lineFeed}
 use Rattle.image.specs.Input.{push, linesOf, form, formed}
 use Rattle.image.proofs.Form.{no-feed}
@@ -51,3 +52,54 @@ first b text = go (eqb b lineFeed) refl (linesOf text) refl
     go true e lines l = record { rest = []; later = linesOf text; is = unfold linesOf in (rw (e, linesOf)) }
     go false e [] l = record { rest = []; later = []; is = unfold linesOf in (rw (e, linesOf) (ap (push b) l)) }
     go false e (line ∷ lines) l = record { rest = line; later = lines; is = unfold linesOf in (rw (e, linesOf) (ap (push b) l)) }
+
+-- ---- lines without an LF inside
+
+abbrev pub clean : List ℕ → Bool
+clean [] = true
+clean (b ∷ bytes) = not (eqb b lineFeed) && clean bytes
+
+no-lf : (t : Bool) → not t ≡ true → t ≡ false
+no-lf true e = sym e
+no-lf false e = refl
+
+pub clean-append : (p q : List ℕ) → clean p ≡ true → clean q ≡ true → clean (p ++ q) ≡ true
+clean-append [] q e f = f
+clean-append (b ∷ p) q e f = let parts = and-both (not (eqb b lineFeed)) (clean p) e in rw (parts .0, clean-append p q (parts .1) f)
+
+-- such bytes and an LF are the first line
+pub cut-first : (p text : List ℕ) → clean p ≡ true → linesOf (p ++ lineFeed ∷ [] ++ text) ≡ (p ++ lineFeed ∷ []) ∷ linesOf text
+unfolding linesOf
+cut-first [] text e = refl
+cut-first (b ∷ p) text e =
+    let parts = and-both (not (eqb b lineFeed)) (clean p) e in
+    rw (no-lf (eqb b lineFeed) (parts .0), linesOf) (ap (push b) (cut-first p text (parts .1)))
+
+-- ---- texts of whole lines
+
+-- such a text is cut as if nothing followed
+abbrev pub Whole : List ℕ → Type 0
+Whole t = (more : List ℕ) → linesOf (t ++ more) ≡ linesOf t ++ linesOf more
+
+pub whole-none : Whole []
+unfolding linesOf
+whole-none more = refl
+
+pub whole-append : (s t : List ℕ) → Whole s → Whole t → Whole (s ++ t)
+whole-append s t f g more =
+    ap linesOf (append-assoc s t more) ∙ f (t ++ more) ∙ ap (λ (ls : List (List ℕ)). linesOf s ++ ls) (g more)
+    ∙ sym (append-assoc (linesOf s) (linesOf t) (linesOf more)) ∙ ap (λ (ls : List (List ℕ)). ls ++ linesOf more) (sym (f t))
+
+-- a byte put before the first of some lines
+push-append : (b c : ℕ) (text : List ℕ) (ls : List (List ℕ)) → push b (linesOf (c ∷ text) ++ ls) ≡ push b (linesOf (c ∷ text)) ++ ls
+push-append b c text ls = rw (first c text .is)
+
+-- whatever ends with an LF is whole
+pub whole-feed : (p : List ℕ) → Whole (p ++ lineFeed ∷ [])
+unfolding linesOf
+whole-feed [] more = refl
+whole-feed (b ∷ []) more = by-test (eqb b lineFeed) (λ e. rw (e, linesOf)) (λ e. rw (e, linesOf))
+whole-feed (b ∷ c ∷ p) more =
+    by-test (eqb b lineFeed)
+    (λ e. rw (e, linesOf) (ap (λ (ls : List (List ℕ)). (b ∷ []) ∷ ls) (whole-feed (c ∷ p) more)))
+    (λ e. rw (e, linesOf) (ap (push b) (whole-feed (c ∷ p) more) ∙ push-append b c (p ++ lineFeed ∷ []) (linesOf more)))

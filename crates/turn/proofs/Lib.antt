@@ -1,3 +1,4 @@
 pub mod OneRow
 pub mod Acts
+mod Effects
 mod Planning

@@ -41,7 +41,7 @@ fn digit(d: u64) -> u8
 }
 
 // The last n octal digits of x.
-fn put_octal(page: &mut [u8], at: usize, n: u64, x: u64) -> usize
+pub fn put_octal(page: &mut [u8], at: usize, n: u64, x: u64) -> usize
     requires { ⌜ at + n ≤ length (now page) ⌝ }
     ensures { λ r. ⌜ Written (octal n x) (now (page .entry)) at (now (page .exit)) r ⌝ }
 {

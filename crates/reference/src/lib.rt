@@ -1,5 +1,5 @@
 // Ops 0 to 5, which work on the word at an address.
-mod address;
+pub mod address;
 mod operations;
 
 use crate::address::first_address;

@@ -1,0 +1,45 @@
+-- What the last step of a run did: the lines of its instruction and of the words that it changed. The sentences quoted are README's, of "Explain a run".
+-- Assumes nothing.
+use mathlib.Core.List.{List, [], _∷_, _++_}
+use Prim.Native.Nat.{ℕ, suc}
+use lib.Dec.{eqb}
+use lib.ListN.{getD}
+use Rattle.word.specs.Choice.{pick, choose}
+use Rattle.page.specs.Text.{ascii, tab, lineFeed, octal}
+use Rattle.desk_mnemonics.specs.Mnemonics.{mnemonic}
+
+-- a line's first word, "its address, the word" there
+abbrev pub placed : List ℕ → ℕ → ℕ → List ℕ
+placed first address word = first ++ tab ∷ octal 4 address ++ tab ∷ octal 4 word
+
+-- "the instruction of the last step: its address, the word fetched there, its mnemonic"
+unfoldable pub lastLine : ℕ → ℕ → List ℕ
+lastLine address word = placed (ascii "last") address word ++ tab ∷ mnemonic word address ++ lineFeed ∷ []
+
+-- "a word of memory ..: its address, the word before the step, the word after it"
+unfoldable pub wordLine : ℕ → ℕ → ℕ → List ℕ
+wordLine address before after = placed (ascii "word") address before ++ tab ∷ octal 4 after ++ lineFeed ∷ []
+
+-- ".. that the last step changed"
+abbrev pub changeLine : ℕ → ℕ → ℕ → List ℕ
+changeLine address before after = pick (eqb before after) [] (wordLine address before after)
+
+-- "rising addresses": of the words from an address on, before the step and after it
+unfoldable pub changeLines : ℕ → List ℕ → List ℕ → List ℕ
+changeLines address [] after = []
+changeLines address (x ∷ before) [] = []
+changeLines address (x ∷ before) (y ∷ after) = changeLine address x y ++ changeLines (suc address) before after
+
+-- by PC and memory before the step, and memory after it; "With 0 steps there is no `last`, no `word`"
+unfoldable pub lastStep : ℕ → ℕ → List ℕ → List ℕ → List ℕ
+lastStep steps pc before after = choose steps (lastLine pc (getD before pc 0) ++ changeLines 0 before after) []
+
+-- the most bytes that the line of an instruction has, that of a word, and all lines of a step: "at most three" of words
+abbrev pub lastLineBytes : ℕ
+lastLineBytes = 138
+
+abbrev pub wordLineBytes : ℕ
+wordLineBytes = 20
+
+abbrev pub changeLinesBytes : ℕ
+changeLinesBytes = 60

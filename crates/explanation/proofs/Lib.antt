@@ -1,4 +1,6 @@
+pub mod LastSteps
 pub mod Answers
+pub mod Sizes
 pub mod ByText
 pub mod Day
 pub mod LastLine

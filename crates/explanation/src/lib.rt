@@ -12,21 +12,22 @@ use state::ROW_PLACES;
 use store::Registers;
 ghost use mathlib.Core.Path.{_≡_};
 ghost use mathlib.Core.List.{_++_};
-ghost use Prim.Native.Nat.{_≤_};
+ghost use Prim.Native.Nat.{_-_, _≤_};
 ghost use lib.ListN.{length, take};
 ghost use Rattle.word.specs.Choice.{choose};
 ghost use Rattle.state.specs.declared.Reason.the-variants.{Halted, Spent};
 ghost use Rattle.machine.specs.State.{values};
-ghost use Rattle.page.specs.Written.{Page};
+ghost use Rattle.page.specs.Written.{Written, Page};
 ghost use Rattle.last_lines.specs.LastLines.{endLine};
 ghost use Rattle.emulator.specs.Emulate as emulation;
 ghost use Rattle.evaluator.specs.Evaluate.{report};
 ghost use Rattle.shipped.specs.Claim.{Together};
 ghost use Rattle.entry.specs.Lines.{machineRegisters};
 ghost use Rattle.inquiry.specs.Scan.{held};
-ghost use Rattle.run_lines.specs.Registers.{registerLines};
+ghost use Rattle.desk_last_step.specs.LastStep.{lastStep};
+ghost use Rattle.run_lines.specs.Registers.{registerLines, workingRegisters, workingValues};
 ghost use Rattle.run_lines.specs.Rows.{rowLines};
-ghost use Rattle.explanation.specs.Explanation.{machineOf, placesOf, answered as Explanation·answered, explanation as Explanation·explanation, scanExplanation, listedIn};
+ghost use Rattle.explanation.specs.Explanation.{machineOf, placesOf, pcIn, LastStep, answered as Explanation·answered, explanation as Explanation·explanation, scanExplanation, listedIn};
 
 // The registers of an inquiry, as the emulator takes them.
 fn machine_of(rs: [u16; REGISTERS]) -> Machine
@@ -93,24 +94,55 @@ fn listed_in(o: Outcome) -> usize
     }
 }
 
-// How a run ended, its registers, and the first n rows of a list.
+// The number before n, and 0 before 0.
+fn fewer(n: u64) -> u64
+    ensures { λ r. ⌜ r ≡ n - 1 ⌝ }
+{
+    if n == 0 { 0 } else { n - 1 }
+}
+
+// Runs the emulator up to the last of so many steps.
+fn run_to_last(memory: &mut [u16; MEMORY_WORDS], m: Machine, steps: u64) -> emulator::Answer
+    ensures { λ r. ⌜ emulation.report m r (now (memory .exit)) ≡ emulation.emulate m (now (memory .entry)) (steps - 1) ⌝ }
+{
+    emulator::emulate(memory, m, fewer(steps))
+}
+
+// PC in an answer of the emulator, which was given m.
+fn pc_in(m: Machine, a: emulator::Answer) -> u16
+    ensures { λ r. ⌜ r ≡ pcIn m a ⌝ }
+{
+    match a {
+        emulator::Answer::Ran(after, _, _) => after.pc,
+        emulator::Answer::Refused(_) => m.pc,
+    }
+}
+
+// How a run ended, what its last step did by PC and memory before it, the machine registers, the working registers among those of the description, and the first n rows
+// of a list.
 fn put_answer(
     page: &mut [u8; PAGE_BYTES],
     m: Machine,
     steps: u64,
+    pc: u16,
+    before: &[u16; MEMORY_WORDS],
+    memory: &[u16; MEMORY_WORDS],
+    places: [u16; 16],
     list: &[u8; ROW_PLACES],
     n: usize,
 ) -> usize
-    requires { ⌜ n ≤ length (now list) ⌝ }
-    ensures { λ r. ⌜ Page (endLine steps (choose (m .run) Spent Halted) ++ registerLines machineRegisters (values m) ++ rowLines (take n (now (list .entry))))
-        (now (page .entry)) (now (page .exit)) r ⌝ }
+    requires { ⌜ LastStep pc (now before) (now memory) ⌝ ∗ ⌜ n ≤ length (now list) ⌝ }
+    ensures { λ r. ⌜ Page (endLine steps (choose (m .run) Spent Halted) ++ lastStep steps pc (now (before .entry)) (now (memory .entry)) ++ registerLines machineRegisters (values m)
+        ++ registerLines workingRegisters (workingValues places) ++ rowLines (take n (now (list .entry)))) (now (page .entry)) (now (page .exit)) r ⌝ }
 {
-    let end = last_lines::put_end_line(page, 0, steps, m.run as u64);
-    let last = registers::put_registers(page, end, m);
-    rows::put_rows(page, last, list, n)
+    let step = last_lines::put_end_line(page, 0, steps, m.run as u64);
+    let machine = desk_last_step::put_last_step(page, step, steps, pc, before, memory);
+    let working = registers::put_registers(page, machine, m);
+    let rows = registers::put_working(page, working, places);
+    rows::put_rows(page, rows, list, n)
 }
 
-// Runs both engines and writes what came of it; nothing where they refuse.
+// Runs both engines, and the emulator to the last step again, and writes what came of it; nothing where they refuse.
 fn answered(
     memory: &[u16; MEMORY_WORDS],
     m: Machine,
@@ -125,11 +157,18 @@ fn answered(
     let both = run_on(&mut first, &mut second, m, budget, &mut list);
     let emulated = both.emulated;
     let evaluated = both.evaluated;
+    let registers = evaluated.registers;
+    let places = registers.values;
     let outcome = evaluated.outcome;
     let n = listed_in(outcome);
     match emulated {
         emulator::Answer::Refused(_) => 0,
-        emulator::Answer::Ran(after, _, steps) => put_answer(page, after, steps, &list, n),
+        emulator::Answer::Ran(after, _, steps) => {
+            let mut third = *memory;
+            let earlier = run_to_last(&mut third, m, steps);
+            let pc = pc_in(m, earlier);
+            put_answer(page, after, steps, pc, &third, &first, places, &list, n)
+        }
     }
 }
 

@@ -1,2 +1,3 @@
 pub mod RowTexts
+pub mod Labels
 pub mod RegisterLines

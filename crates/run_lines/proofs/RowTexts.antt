@@ -11,14 +11,15 @@ use lib.ListN.{length, getD, take, length-append}
 use lib.Seq.{take-suc}
 use borrow.Author.Tests.{leb-true}
 use Rattle.word.specs.Choice.{pick}
+use Rattle.page.specs.Text.{decimalIn, decimal}
 use Rattle.page.proofs.Numbers.{decimal-length}
 use Rattle.characters.specs.Characters.{run, same}
 use Rattle.fields.specs.Fields.{lineFeed, before, after, Line, lines, firstLine, field}
 use Rattle.fields.proofs.Lines.{first-line}
 use Rattle.laws.proofs.Joined.{and-left, and-right}
 use Rattle.pdp8_rows.specs.Text.{shippedText}
-use Rattle.targets.specs.Targets.{isRow}
-use Rattle.run_lines.specs.Rows.{rowTexts, rowOf, rowLine, rowLines, rowLineBytes}
+use Rattle.targets.specs.Targets.{isRow, passes}
+use Rattle.run_lines.specs.Rows.{rowTexts, rowOf, isGo, labelOf, rowBelow, atLine, labelLine, rowLine, rowLines, labelLineBytes, rowLineBytes}
 
 -- ---- one line
 
@@ -49,31 +50,64 @@ row-none (b ∷ rest) left h = absurd (omega arith)
 
 -- ---- the shipped rows
 
--- whether no text has more than n bytes
-abbrev allWithin : ℕ → List (List ℕ) → Bool
-allWithin n [] = true
-allWithin n (l ∷ ls) = leb (length l) n && allWithin n ls
+-- whether no text comes to more than n bytes
+abbrev allWithin : (List ℕ → List ℕ) → ℕ → List (List ℕ) → Bool
+allWithin f n [] = true
+allWithin f n (l ∷ ls) = leb (length (f l)) n && allWithin f n ls
 
-each-within : (n : ℕ) (ls : List (List ℕ)) → allWithin n ls ≡ true → (k : ℕ) → length (getD ls k []) ≤ n
-each-within n [] t k = omega arith
-each-within n (l ∷ ls) t zero = leb-true (length l) n (and-left (leb (length l) n) (allWithin n ls) t)
-each-within n (l ∷ ls) t (suc k) = each-within n ls (and-right (leb (length l) n) (allWithin n ls) t) k
+each-within : (f : List ℕ → List ℕ) (n : ℕ) (ls : List (List ℕ)) → length (f []) ≤ n → allWithin f n ls ≡ true → (k : ℕ) → length (f (getD ls k [])) ≤ n
+each-within f n [] h t k = h
+each-within f n (l ∷ ls) h t zero = leb-true (length (f l)) n (and-left (leb (length (f l)) n) (allWithin f n ls) t)
+each-within f n (l ∷ ls) h t (suc k) = each-within f n ls h (and-right (leb (length (f l)) n) (allWithin f n ls) t) k
 
 -- the most bytes that a shipped row's text has
 abbrev pub rowTextBytes : ℕ
 rowTextBytes = 50
 
-shipped-within : allWithin rowTextBytes (rowTexts (lines shippedText)) ≡ true
+abbrev itself : List ℕ → List ℕ
+itself l = l
+
+shipped-within : allWithin itself rowTextBytes (rowTexts (lines shippedText)) ≡ true
 unfolding run same lines field rowTexts shippedText
 shipped-within = refl
 
 pub row-size : (k : ℕ) → length (rowOf k shippedText) ≤ rowTextBytes
-row-size k = each-within rowTextBytes (rowTexts (lines shippedText)) shipped-within (k - 1)
+row-size k = each-within itself rowTextBytes (rowTexts (lines shippedText)) (omega arith) shipped-within (k - 1)
+
+-- and the line of its label
+labels-within : allWithin labelLine labelLineBytes (rowTexts (lines shippedText)) ≡ true
+unfolding run same lines field decimalIn decimal passes rowTexts shippedText atLine labelLine
+labels-within = refl
+
+no-label : length (labelLine []) ≤ labelLineBytes
+unfolding run same field labelLine
+no-label = omega arith
+
+pub label-size : (k : ℕ) → length (labelLine (rowOf k shippedText)) ≤ labelLineBytes
+label-size k = each-within labelLine labelLineBytes (rowTexts (lines shippedText)) no-label labels-within (k - 1)
 
 -- with a number below 256, the TAB and the LF
 pub row-line-size : (k : ℕ) → k < 256 → length (rowLine k) ≤ rowLineBytes
 unfolding rowLine
-row-line-size k h = let short = decimal-length 2 k (omega arith) in let text = row-size k in simp length-append (omega arith)
+row-line-size k h =
+    let short = decimal-length 2 k (omega arith) in
+    let text = row-size k in
+    let label = label-size k in
+    simp length-append (omega arith)
+
+-- ---- the line of a label
+
+pub at-size : (label : List ℕ) (row : ℕ) → length (atLine label row) ≡ length label + length (decimal row) + 5
+unfolding atLine
+at-size label row = simp length-append (omega arith)
+
+pub go-label : (line : List ℕ) → isGo line ≡ true → labelLine line ≡ atLine (labelOf line) (rowBelow (labelOf line) shippedText)
+unfolding labelLine
+go-label line t = ap (λ (b : Bool). pick b (atLine (labelOf line) (rowBelow (labelOf line) shippedText)) []) t
+
+pub no-go : (line : List ℕ) → isGo line ≡ false → labelLine line ≡ []
+unfolding labelLine
+no-go line t = ap (λ (b : Bool). pick b (atLine (labelOf line) (rowBelow (labelOf line) shippedText)) []) t
 
 -- ---- lines of rows
 

@@ -1,12 +1,14 @@
--- The registers, each on a line that an inquiry may have.
+-- The registers after a run, each on a line. The sentences quoted are README's, of "Explain a run", and document 01's.
 -- Assumes nothing.
 use mathlib.Core.List.{List, [], _∷_, _++_}
 use Prim.Native.Nat.{ℕ}
+use lib.ListN.{length, drop}
 use Rattle.page.specs.Text.{tab, lineFeed, octal}
 use Rattle.names.specs.Names.{Named}
-use Rattle.entry.specs.Lines.{digitsOf}
+use Rattle.pdp8_rows.specs.Shipped.{shippedRegisters}
+use Rattle.entry.specs.Lines.{machineRegisters, digitsOf}
 
--- "register name, TAB, value in octal digits .., LF", as an inquiry's line
+-- "its name and the value that the run leaves, in octal with a digit for every three bits begun"
 abbrev pub registerLine : Named → ℕ → List ℕ
 registerLine r value = r .name ++ tab ∷ octal (digitsOf (r .number)) value ++ lineFeed ∷ []
 
@@ -16,10 +18,21 @@ registerLines [] vs = []
 registerLines (r ∷ rs) [] = []
 registerLines (r ∷ rs) (v ∷ vs) = registerLine r v ++ registerLines rs vs
 
--- the bytes of the six lines
+-- "A shipped description's registers that the emulator lacks are its working registers": those after the machine's
+abbrev pub workingRegisters : List Named
+workingRegisters = drop (length machineRegisters) shippedRegisters
+
+-- their values among those of a description's registers
+abbrev pub workingValues : List ℕ → List ℕ
+workingValues values = drop (length machineRegisters) values
+
+-- the bytes of the six lines of the machine registers, and of the four of the working registers
 abbrev pub registerLinesBytes : ℕ
 registerLinesBytes = 77
 
--- the bytes of a page: the longest explanation has fewer, as the last line of a run, six of registers and 128 rows of at most 55 bytes
+abbrev pub workingLinesBytes : ℕ
+workingLinesBytes = 37
+
+-- the bytes of a page: the longest explanation has fewer, as the last line of a run has at most 32, its last step 198, the registers 114, and 128 rows at most 71 each
 abbrev pub pageBytes : ℕ
-pageBytes = 8192
+pageBytes = 16384

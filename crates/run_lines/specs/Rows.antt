@@ -1,14 +1,19 @@
--- The rows of the shipped description, each "with its number, a TAB and its text as shipped".
+-- The rows of the shipped description, and the labels that they name. The sentences quoted are README's, of "Explain a run", and document 01's.
 -- Assumes nothing.
 use mathlib.Core.List.{List, [], _∷_, _++_}
-use mathlib.Core.Bool.{true, false}
-use Prim.Native.Nat.{ℕ, _+_, _-_, _*_, _≤_}
+use mathlib.Core.Bool.{Bool, true, false}
+use Prim.Native.Nat.{ℕ, suc, _+_, _-_, _*_, _≤_}
 use lib.ListN.{getD}
-use Rattle.page.specs.Text.{tab, lineFeed, decimal}
+use Rattle.word.specs.Choice.{pick}
+use Rattle.page.specs.Text.{ascii, tab, lineFeed, decimal}
 use Rattle.page.specs.Written.{Written}
-use Rattle.fields.specs.Fields.{Line, lines}
+use Rattle.characters.specs.Characters.{same}
+use Rattle.fields.specs.Fields.{Line, lines, field}
+use Rattle.declaration.specs.Lines.{goWord}
 use Rattle.pdp8_rows.specs.Text.{shippedText}
-use Rattle.targets.specs.Targets.{isRow}
+use Rattle.targets.specs.Targets.{isRow, passes}
+use Rattle.targets.specs.declared.Target.{Target}
+use Rattle.targets.specs.declared.Target.the-variants.{Passes, Missing}
 
 -- "`do` and `go` lines are rows", as for the reader
 unfoldable pub rowTexts : List Line → List (List ℕ)
@@ -19,18 +24,45 @@ rowTexts (l ∷ ls) = elim (isRow (l .bytes)) [ true ↦ l .bytes ∷ rowTexts l
 abbrev pub rowOf : ℕ → List ℕ → List ℕ
 rowOf k text = getD (rowTexts (lines text)) (k - 1) []
 
--- row k "as shipped"
+-- "each row that is a `go`"
+abbrev pub isGo : List ℕ → Bool
+isGo line = same (field 0 line) goWord
+
+-- "the label that it names": "`go`, condition, label"
+abbrev pub labelOf : List ℕ → List ℕ
+labelOf line = field 2 line
+
+-- "the number of the first row below that label": one more than the rows above it, as they are numbered from 1. No row has the number 0, for a label that isn't there.
+abbrev pub rowAfter : Target → ℕ
+rowAfter (Passes above) = suc above
+rowAfter Missing = 0
+
+abbrev pub rowBelow : List ℕ → List ℕ → ℕ
+rowBelow label text = rowAfter (passes label (lines text))
+
+-- the line of a label and of that row
+unfoldable pub atLine : List ℕ → ℕ → List ℕ
+atLine label row = ascii "at" ++ tab ∷ label ++ tab ∷ decimal row ++ lineFeed ∷ []
+
+-- "after each row that is a `go`"; nothing after another
+unfoldable pub labelLine : List ℕ → List ℕ
+labelLine line = pick (isGo line) (atLine (labelOf line) (rowBelow (labelOf line) shippedText)) []
+
+-- "its number, and its line of description/pdp8.rows"
 unfoldable pub rowLine : ℕ → List ℕ
-rowLine k = decimal k ++ tab ∷ rowOf k shippedText ++ lineFeed ∷ []
+rowLine k = decimal k ++ tab ∷ rowOf k shippedText ++ lineFeed ∷ [] ++ labelLine (rowOf k shippedText)
 
 -- a line for each row
 unfoldable pub rowLines : List ℕ → List ℕ
 rowLines [] = []
 rowLines (k ∷ ks) = rowLine k ++ rowLines ks
 
--- the most bytes that a row's line has
+-- the most bytes that the line of a label has, and a row's line with it
+abbrev pub labelLineBytes : ℕ
+labelLineBytes = 16
+
 abbrev pub rowLineBytes : ℕ
-rowLineBytes = 55
+rowLineBytes = 71
 
 -- the lines of n rows stand on the page from a place on, to the place `end`, with room for each
 pub record Listed (text before : List ℕ) (at n : ℕ) (after : List ℕ) (end : ℕ) : Type 0 where

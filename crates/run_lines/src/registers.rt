@@ -1,4 +1,4 @@
-// The registers after a run, each on a line that an inquiry may have.
+// The registers after a run, each on a line: the machine's, as an inquiry may have them, and the description's working registers.
 use crate::PAGE_BYTES;
 use fields::LINE_FEED;
 use machine::Machine;
@@ -12,7 +12,7 @@ ghost use Rattle.machine.specs.State.{values};
 ghost use Rattle.page.specs.Text.{tab, lineFeed, octal};
 ghost use Rattle.page.specs.Written.{Written};
 ghost use Rattle.entry.specs.Lines.{machineRegisters};
-ghost use Rattle.run_lines.specs.Registers.{registerLines, registerLinesBytes, pageBytes};
+ghost use Rattle.run_lines.specs.Registers.{registerLines, workingRegisters, workingValues, registerLinesBytes, workingLinesBytes, pageBytes};
 
 // A register's line: its name, TAB, its value in n octal digits.
 fn put_register(page: &mut [u8; PAGE_BYTES], at: usize, name: &[u8], n: u64, value: u16) -> usize
@@ -35,4 +35,15 @@ pub fn put_registers(page: &mut [u8; PAGE_BYTES], at: usize, m: Machine) -> usiz
     let request = put_register(page, enable, b"INTERRUPT.ENABLE", 1, m.enable);
     let switches = put_register(page, request, b"INTERRUPT.REQUEST", 1, m.request);
     put_register(page, switches, b"SWITCHES", 4, m.switches)
+}
+
+// The working registers, by the values of all the registers of the description.
+pub fn put_working(page: &mut [u8; PAGE_BYTES], at: usize, values: [u16; 16]) -> usize
+    requires { ⌜ at + workingLinesBytes ≤ pageBytes ⌝ }
+    ensures { λ r. ⌜ Written (registerLines workingRegisters (workingValues values)) (now (page .entry)) at (now (page .exit)) r ⌝ }
+{
+    let last_pc = put_register(page, at, b"i", 4, values[6]);
+    let eadd = put_register(page, last_pc, b"last.pc", 4, values[7]);
+    let skip = put_register(page, eadd, b"eadd", 4, values[8]);
+    put_register(page, skip, b"skip", 1, values[9])
 }

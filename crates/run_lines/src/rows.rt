@@ -1,4 +1,4 @@
-// The rows that acted, with their texts.
+// The rows that acted, with their texts and the labels that they name.
 use crate::PAGE_BYTES;
 use fields::LINE_FEED;
 use fields::TAB;
@@ -6,13 +6,14 @@ use page::put_byte;
 use page::put_decimal;
 use page::put_text;
 use pdp8_rows::DESCRIPTION_BYTES;
+use targets::Target;
 ghost use mathlib.Core.Path.{_≡_};
 ghost use Prim.Native.Nat.{_+_, _-_, _*_, _<_, _≤_};
 ghost use lib.ListN.{length, take};
 ghost use Rattle.word.specs.Choice.{pick};
 ghost use Rattle.page.specs.Written.{Written};
 ghost use Rattle.pdp8_rows.specs.Text.{shippedText};
-ghost use Rattle.run_lines.specs.Rows.{rowOf, rowLine, rowLines, rowLineBytes, Listed};
+ghost use Rattle.run_lines.specs.Rows.{rowOf, rowBelow, atLine, labelLine, rowLine, rowLines, rowLineBytes, Listed};
 ghost use Rattle.run_lines.specs.Registers.{pageBytes};
 
 // The number before k, and 0 before 0.
@@ -48,15 +49,59 @@ fn row_of(text: &[u8], k: usize) -> &[u8]
     rest
 }
 
-// The line of row k.
+// The number of the first row below a label, 0 where the label isn't there.
+fn row_below(text: &[u8; DESCRIPTION_BYTES], label: &[u8]) -> u64
+    requires { ⌜ now text ≡ shippedText ⌝ }
+    ensures { λ r. ⌜ r ≡ rowBelow (now (label .entry)) shippedText ⌝ }
+{
+    match targets::passes(label, text) {
+        Target::Passes(above) => above as u64 + 1,
+        Target::Missing => 0,
+    }
+}
+
+// The line of a label and of the first row below it.
+fn put_at(page: &mut [u8; PAGE_BYTES], at: usize, label: &[u8], row: u64) -> usize
+    requires { ⌜ at + length (atLine (now label) row) ≤ pageBytes ⌝ }
+    ensures { λ r. ⌜ Written (atLine (now (label .entry)) row) (now (page .entry)) at (now (page .exit)) r ⌝ }
+{
+    let name = put_text(page, at, b"at\t");
+    let tab = put_text(page, name, label);
+    let number = put_byte(page, tab, TAB);
+    let end = put_decimal(page, number, row);
+    put_byte(page, end, LINE_FEED)
+}
+
+// The line of the label that a row names, where it is a `go`.
+fn put_label(
+    page: &mut [u8; PAGE_BYTES],
+    at: usize,
+    text: &[u8; DESCRIPTION_BYTES],
+    line: &[u8],
+) -> usize
+    requires { ⌜ now text ≡ shippedText ⌝ ∗ ⌜ at + length (labelLine (now line)) ≤ pageBytes ⌝ }
+    ensures { λ r. ⌜ Written (labelLine (now (line .entry))) (now (page .entry)) at (now (page .exit)) r ⌝ }
+{
+    if characters::is_same(fields::field_of(line, 0), b"go") {
+        let label = fields::field_of(line, 2);
+        let row = row_below(text, label);
+        put_at(page, at, label, row)
+    } else {
+        at
+    }
+}
+
+// The line of row k, and that of its label.
 fn put_row(page: &mut [u8; PAGE_BYTES], at: usize, text: &[u8; DESCRIPTION_BYTES], k: u8) -> usize
     requires { ⌜ now text ≡ shippedText ⌝ ∗ ⌜ at + rowLineBytes ≤ pageBytes ⌝ }
     ensures { λ r. ⌜ Written (rowLine k) (now (page .entry)) at (now (page .exit)) r ⌝ }
 {
     let tab = put_decimal(page, at, k as u64);
     let start = put_byte(page, tab, TAB);
-    let end = put_text(page, start, row_of(text, k as usize));
-    put_byte(page, end, LINE_FEED)
+    let line = row_of(text, k as usize);
+    let feed = put_text(page, start, line);
+    let end = put_byte(page, feed, LINE_FEED);
+    put_label(page, end, text, line)
 }
 
 // The lines of the first n rows of a list, and the room that they take.

@@ -1,6 +1,7 @@
--- `explanation::put_answer`: the last line of the run, the registers, the rows; their room is counted.
+-- `explanation::put_answer`: one part after the other; their room is counted.
 use borrow.Author.Needs.{needs}
 use native.Mathlib.Omega.{arith}
+use mathlib.Core.Path.{_≡_}
 use Prim.Native.Nat.{_≤_}
 use lib.ListN.{length}
 use Rattle.word.specs.Choice.{choose}
@@ -8,17 +9,27 @@ use Rattle.state.specs.declared.Reason.the-variants.{Halted, Spent}
 use Rattle.page.proofs.Numbers.{decimal-length}
 use Rattle.page.proofs.Writing.{written-then, written-page}
 use Rattle.last_lines.specs.LastLines.{endLine}
-use Rattle.last_lines.proofs.Sizes.{end-size}
+use Rattle.desk_last_step.specs.LastStep.{lastStep}
 use Rattle.run_lines.specs.Registers.{pageBytes}
-use Rattle.run_lines.proofs.RegisterLines.{registers-size}
+use Rattle.run_lines.proofs.RegisterLines.{registers-size, working-size}
+use Rattle.explanation.proofs.Sizes.{end-within, step-within}
 use Rattle.explanation.proofs.put_answer.Statement.{statement}
 use Rattle.explanation.proofs.put_answer.Tie as tie
 
--- the last line of a run has at most 32 bytes: its steps have 64 bits
-last-line : (start : tie.Start) → length (endLine (start .args .steps) (choose (start .args .m .run) Spent Halted)) ≤ 32
-last-line start = let digits = decimal-length 19 (start .args .steps) (search needs) in
-    let size = end-size (start .args .steps) (choose (start .args .m .run) Spent Halted) in
-    omega arith
+-- the bytes of the parts
+end-size : (start : tie.Start) → length (endLine (start .args .steps) (choose (start .args .m .run) Spent Halted)) ≤ 32
+end-size start = end-within (start .args .steps) (choose (start .args .m .run) Spent Halted) (search needs)
+
+step-size : (start : tie.Start) → length (lastStep (start .args .steps) (start .args .pc) (start .args .before .now) (start .args .memory .now)) ≤ 198
+step-size start = let a = start .args in
+    step-within (a .steps) (a .pc) (a .before .now) (a .memory .now) (start .pre .0 .few)
+
+sixteen : (start : tie.Start) → length (start .args .places) ≡ 16
+sixteen start = let g = start .good in search needs
+
+-- and of the page
+full : (c : tie.After-put-end-line-arg) → length (c .before .args .page .now) ≡ pageBytes
+full c = search needs
 
 cast-put-end-line : tie.Need-cast-put-end-line
 cast-put-end-line c = search needs
@@ -26,26 +37,52 @@ cast-put-end-line c = search needs
 put-end-line-requires : tie.Need-put-end-line-requires
 put-end-line-requires c κs = omega (arith, decimal-length 19 (c .before .before .args .steps) (search needs))
 
+put-last-step-requires : tie.Need-put-last-step-requires
+put-last-step-requires c κs = let line = c .before .before .before in
+    let start = line .before .before .before in
+    let last = start .pre .0 in
+    (omega (arith, line .put-end-line .ensures .place, end-size start, last .few), (last .inside, last .whole))
+
 put-registers-requires : tie.Need-put-registers-requires
-put-registers-requires c κs = let end = c .before in
-    omega (arith, end .put-end-line .ensures .place, last-line (end .before .before .before))
+put-registers-requires c κs = let step = c .before in
+    let line = step .before .before .before .before in
+    let start = line .before .before .before in
+    omega (arith, step .put-last-step .ensures .place, step-size start, line .put-end-line .ensures .place, end-size start)
+
+put-working-requires : tie.Need-put-working-requires
+put-working-requires c κs = let machine = c .before in
+    let step = machine .before .before in
+    let line = step .before .before .before .before in
+    let start = line .before .before .before in
+    let registers = registers-size (start .args .m) in
+    omega (arith, machine .put-registers .ensures .place, registers, step .put-last-step .ensures .place, step-size start, line .put-end-line .ensures .place, end-size start)
 
 put-rows-requires : tie.Need-put-rows-requires
-put-rows-requires c κs = let last = c .before .before in
-    let end = last .before .before in
-    let start = end .before .before .before in
-    omega (arith, start .pre, end .put-end-line .ensures .place, last-line start, last .put-registers .ensures .place, registers-size (start .args .m))
+put-rows-requires c κs = let working = c .before .before in
+    let machine = working .before .before in
+    let step = machine .before .before in
+    let line = step .before .before .before .before in
+    let start = line .before .before .before in
+    let first = machine .put-registers .ensures .place in
+    let registers = registers-size (start .args .m) in
+    let second = working .put-working .ensures .place in
+    let others = working-size (start .args .places) (sixteen start) in
+    (start .pre .1, omega (arith, start .pre .1, first, registers, second, others, step .put-last-step .ensures .place, step-size start, line .put-end-line .ensures .place, end-size start))
 
 returns : tie.Need-returns
-returns c = let last = c .before .before .before in
-    let end = last .before .before in
-    let start = end .before .before .before in
-    let line = end .put-end-line .ensures in
-    let registers = last .put-registers .ensures in
+returns c = let working = c .before .before .before in
+    let machine = working .before .before in
+    let step = machine .before .before in
+    let line = step .before .before .before .before in
+    let start = line .before .before .before in
+    let first = machine .put-registers .ensures in
+    let registers = registers-size (start .args .m) in
+    let second = working .put-working .ensures in
+    let others = working-size (start .args .places) (sixteen start) in
     let rows = c .put-rows .ensures in
-    written-page pageBytes _ (search needs)
-    (omega (arith, start .pre, rows .room, registers .place, line .place, last-line start, registers-size (start .args .m)))
-    (written-then _ _ (written-then _ _ line registers) (rows .written))
+    written-page pageBytes _ (full (line .before .before))
+    (omega (arith, start .pre .1, rows .room, second .place, others, first .place, registers, step .put-last-step .ensures .place, step-size start, line .put-end-line .ensures .place, end-size start))
+    (written-then _ _ (written-then _ _ (written-then _ _ (written-then _ _ (line .put-end-line .ensures) (step .put-last-step .ensures)) first) second) (rows .written))
 
 pub put-answer-spec : {M : Type 1} → statement M
 put-answer-spec =
@@ -53,6 +90,8 @@ put-answer-spec =
     (tie.spec
     cast-put-end-line
     put-end-line-requires
+    put-last-step-requires
     put-registers-requires
+    put-working-requires
     put-rows-requires
     returns)

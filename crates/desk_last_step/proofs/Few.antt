@@ -1,6 +1,5 @@
 -- "at most three such lines": a step stores at most a word that it indexes by, the word that its op works on, and PC where it is interrupted.
 -- Assumes nothing.
-use mathlib.Core.Path.{_≡_}
 use mathlib.Core.Bool.{_&&_}
 use mathlib.Core.List.{List}
 use Prim.Native.Nat.{ℕ, _+_, _/_, _≤_}

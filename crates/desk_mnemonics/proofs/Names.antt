@@ -74,16 +74,12 @@ mark-more true [] w = refl
 mark-more true (v ∷ ws) w = refl
 mark-more false ws w = ap markOf (sym (append-nil ws))
 
-pick-append : (t : Bool) (w : List ℕ) (ws more : List (List ℕ)) → pick t (w ∷ (ws ++ more)) (ws ++ more) ≡ pick t (w ∷ ws) ws ++ more
-pick-append true w ws more = refl
-pick-append false w ws more = refl
-
 names-snoc : (i : ℕ) (ns : List Name) (n : Name) → namesOf i (ns ++ n ∷ []) ≡ namesOf i ns ++ pick (isNamed i n) (n .letters ∷ []) []
 unfolding namesOf
-names-snoc i [] n = refl
+names-snoc i [] n = append-nil (pick (isNamed i n) (n .letters ∷ []) [])
 names-snoc i (m ∷ ns) n =
-    ap (λ (l : List (List ℕ)). pick (isNamed i m) (m .letters ∷ l) l) (names-snoc i ns n)
-    ∙ pick-append (isNamed i m) (m .letters) (namesOf i ns) (pick (isNamed i n) (n .letters ∷ []) [])
+    ap (λ (l : List (List ℕ)). pick (isNamed i m) (m .letters ∷ []) [] ++ l) (names-snoc i ns n)
+    ∙ sym (append-assoc (pick (isNamed i m) (m .letters ∷ []) []) (namesOf i ns) (pick (isNamed i n) (n .letters ∷ []) []))
 
 -- the names among the first k of the table
 abbrev pub found : ℕ → ℕ → List (List ℕ)
@@ -155,7 +151,7 @@ spaced-size i (m ∷ ns) t =
     (spaced-size i ns (and-right (leb (length (m .letters)) 3) (allWithin 3 ns) t))
   where
     go : (u : Bool) → length (m .letters) ≤ 3 → length (spaced (namesOf i ns)) ≤ nameBytes * length ns
-        → length (spaced (pick u (m .letters ∷ namesOf i ns) (namesOf i ns))) ≤ nameBytes * length (m ∷ ns)
+        → length (spaced (pick u (m .letters ∷ []) [] ++ namesOf i ns)) ≤ nameBytes * length (m ∷ ns)
     go true h l = unfold spaced in (let whole = length-append (m .letters) (spaced (namesOf i ns)) in omega arith)
     go false h l = omega arith
 

@@ -61,7 +61,7 @@ isNamed i n = eqb (bitAnd i (n .mask)) (n .code)
 -- those that it has
 unfoldable pub namesOf : ℕ → List Name → List (List ℕ)
 namesOf i [] = []
-namesOf i (n ∷ ns) = pick (isNamed i n) (n .letters ∷ namesOf i ns) (namesOf i ns)
+namesOf i (n ∷ ns) = pick (isNamed i n) (n .letters ∷ []) [] ++ namesOf i ns
 
 -- "any other of op 6 `IOT`"; "`NOP` where no bit does"
 abbrev pub unnamed : ℕ → List ℕ

@@ -1,4 +1,5 @@
--- What the two engines answer is what is explained: where nothing is refused they ran, and the rows listed are those that acted.
+-- What the two engines answer is what is explained: where nothing is refused they ran, the rows listed are those that acted, and the emulator at one step fewer ends before the
+-- last step.
 -- Assumes nothing.
 use mathlib.Core.Path.{_≡_, refl, sym, ap, _∙_, subst}
 use mathlib.Core.List.{List, [], _++_}

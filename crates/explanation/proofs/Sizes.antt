@@ -2,10 +2,10 @@
 -- Assumes nothing.
 use mathlib.Core.Bool.{Bool, true, false}
 use mathlib.Core.List.{List, [], _++_}
-use Prim.Native.Nat.{ℕ, suc, _+_, _^_, _≤_, _<_}
+use Prim.Native.Nat.{ℕ, _^_, _≤_, _<_}
 use native.Mathlib.Omega.{arith}
 use lib.ListN.{length, getD, length-append}
-use Rattle.word.specs.Choice.{on, pick, choose}
+use Rattle.word.specs.Choice.{on, pick}
 use Rattle.state.specs.declared.Reason.{Reason}
 use Rattle.page.proofs.Numbers.{decimal-length}
 use Rattle.last_lines.specs.LastLines.{endLine}

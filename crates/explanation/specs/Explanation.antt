@@ -54,7 +54,7 @@ unfoldable pub explained : Machine → List ℕ → ℕ → List ℕ
 explained m memory budget =
     told (run budget (start m memory)) (beforeLast m memory (run budget (start m memory) .steps)) (cyclesOf (placesOf m) memory budget)
 
--- "A line of no such form is refused by its number": for the number of the first such line, or 0, and what is asked
+-- "Any other line is unfit: the output is then only `refused`, TAB, the first such line's number": for that number, or 0, and what is asked
 abbrev pub answerTo : ℕ → Inquiry → List ℕ
 answerTo zero q = explained (machineOf (q .registers)) (q .memory) (q .budget)
 answerTo (suc n) q = refusedLine (suc n)

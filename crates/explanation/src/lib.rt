@@ -17,7 +17,7 @@ ghost use lib.ListN.{length, take};
 ghost use Rattle.word.specs.Choice.{choose};
 ghost use Rattle.state.specs.declared.Reason.the-variants.{Halted, Spent};
 ghost use Rattle.machine.specs.State.{values};
-ghost use Rattle.page.specs.Written.{Written, Page};
+ghost use Rattle.page.specs.Written.{Page};
 ghost use Rattle.last_lines.specs.LastLines.{endLine};
 ghost use Rattle.emulator.specs.Emulate as emulation;
 ghost use Rattle.evaluator.specs.Evaluate.{report};

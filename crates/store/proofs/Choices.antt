@@ -3,7 +3,7 @@
 use mathlib.Core.Path.{_≡_, refl, sym, ap, _∙_}
 use mathlib.Core.Bool.{Bool, true, false}
 use mathlib.Core.List.{List}
-use Prim.Native.Nat.{ℕ, _+_, _<_}
+use Prim.Native.Nat.{ℕ, _+_, _≤_, _<_}
 use native.Mathlib.Omega.{arith}
 use lib.Dec.{eqb, ltb}
 use lib.ListN.{getD, set}
@@ -15,8 +15,8 @@ use Rattle.word.specs.Choice.{pick}
 abbrev pub chosen : List ℕ → ℕ → ℕ → ℕ → List ℕ
 chosen l i z k = pick (ltb i k) (set l i z) l
 
-pub none-chosen : (l : List ℕ) (i z : ℕ) → l ≡ chosen l i z 0
-none-chosen l i z = sym (ap (λ (t : Bool). pick t (set l i z) l) (le-ltb i 0 (omega arith)))
+pub none-chosen : (l : List ℕ) (i z k : ℕ) → k ≤ i → l ≡ chosen l i z k
+none-chosen l i z k h = sym (ap (λ (t : Bool). pick t (set l i z) l) (le-ltb i k h))
 
 -- a place that is not i changes nothing
 passed : (i k : ℕ) → (i ≡ k → ⊥) → ltb i k ≡ ltb i (k + 1)

@@ -6,7 +6,7 @@
  *   NULL may stand only where the length is 0.
  * - It takes whatever else it is handed, always returns, and writes exactly one outcome. After a refusal everything but the outcome is as it came.
  * - It keeps nothing between calls: threads may call it at the same time, each on its own data.
- * - It needs no more stack than GUAVACHISEL_STACK_.. says of it below, in bytes.
+ * - It needs no more stack than GUAVACHISEL_STACK_.. says of it below, in bytes: by measurement with a margin, not by proof.
  */
 #ifndef GUAVACHISEL_H
 #define GUAVACHISEL_H

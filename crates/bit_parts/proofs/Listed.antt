@@ -5,7 +5,8 @@ use mathlib.Core.List.{List, []}
 use Prim.Native.Nat.{ℕ, _<_}
 use native.Mathlib.Nat.{zero-add}
 use lib.ListN.{getD}
-use Rattle.names.specs.Names.{Named, entries}
+use Rattle.characters.specs.Named.{Named}
+use Rattle.names.specs.Dictionaries.{entries}
 use Rattle.names.specs.declared.Dictionary.{Dictionary}
 use Rattle.names.proofs.Entries.{entry-from}
 use Rattle.bit_parts.specs.References.{widthIn}

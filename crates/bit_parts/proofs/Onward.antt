@@ -11,7 +11,7 @@ use lib.Seq.{take-nil}
 use borrow.Author.Tests.{ltb-true, ltb-false, leb-true, eqb-true}
 use Rattle.characters.specs.Characters.{isDigit, isLetter, isWord, runEnd, same}
 use Rattle.constants.specs.Constants.{binaryMark, octalMark, numberAt, isPlain, largest, decimalAt, markedAt, ofDecimal, constantAt, binaryDigits, octalDigits}
-use Rattle.names.specs.Names.{Named, find}
+use Rattle.characters.specs.Named.{Named, find}
 use Rattle.characters.specs.declared.Class.{Class}
 use Rattle.characters.specs.declared.Class.the-variants.{Space, Word, Binary, Octal, Decimal}
 use Rattle.constants.specs.declared.Number.{Number}

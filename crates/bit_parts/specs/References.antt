@@ -10,7 +10,7 @@ use Rattle.characters.specs.declared.Class.the-variants.{Word}
 use Rattle.constants.specs.Constants.{decimalAt}
 use Rattle.constants.specs.declared.Number.{Number}
 use Rattle.constants.specs.declared.Number.the-variants.{Plain, Unread}
-use Rattle.names.specs.Names.{Named, find}
+use Rattle.characters.specs.Named.{Named, find}
 use Rattle.tokens.specs.Tokens.{angleOpen, angleClose, colon, skip, next, slice}
 use Rattle.bit_parts.specs.declared.Span.{Span}
 use Rattle.bit_parts.specs.declared.Span.the-variants.{Bits, Bad}

@@ -4,7 +4,7 @@ use constants::Number;
 use names::Dictionary;
 ghost use mathlib.Core.Path.{_≡_};
 ghost use Prim.Native.Nat.{_≤_};
-ghost use Rattle.names.specs.Names.{entries, places};
+ghost use Rattle.names.specs.Dictionaries.{entries, places};
 ghost use Rattle.bit_parts.specs.References.{secondBit, firstBit, spanAt, partOf, registerAt, referenceAt};
 
 // Bit numbers and the place after them.

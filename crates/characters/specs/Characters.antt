@@ -6,29 +6,30 @@ use mathlib.Core.Bool.{Bool, true, false, not, _&&_, _||_}
 use mathlib.Core.List.{List, [], _∷_}
 use lib.Dec.{eqb, leb}
 use lib.ListN.{drop}
+use Rattle.characters.specs.Ascii.{byteOf, tab, digit}
 use Rattle.characters.specs.declared.Class.{Class}
 use Rattle.characters.specs.declared.Class.the-variants.{Space, Word, Binary, Octal, Decimal, Printable, Other}
 
 -- "digits"
 abbrev pub isDigit : ℕ → Bool
-isDigit b = leb 48 b && leb b 57
+isDigit b = leb (digit 0) b && leb b (digit 9)
 
 -- "letters", "case kept"
 abbrev pub isLetter : ℕ → Bool
-isLetter b = leb 65 b && leb b 90 || leb 97 b && leb b 122
+isLetter b = leb (byteOf "A") b && leb b (byteOf "Z") || leb (byteOf "a") b && leb b (byteOf "z")
 
 -- "letters, digits or dots"
 abbrev pub isWord : ℕ → Bool
-isWord b = isLetter b || isDigit b || eqb b 46
+isWord b = isLetter b || isDigit b || eqb b (byteOf ".")
 
 -- whether a byte is of a class
 abbrev pub belongs : Class → ℕ → Bool
-belongs Space b = eqb b 32
+belongs Space b = eqb b (byteOf " ")
 belongs Word b = isWord b
-belongs Binary b = leb 48 b && leb b 49
-belongs Octal b = leb 48 b && leb b 55
+belongs Binary b = leb (digit 0) b && leb b (digit 1)
+belongs Octal b = leb (digit 0) b && leb b (digit 7)
 belongs Decimal b = isDigit b
-belongs Printable b = leb 32 b && leb b 126 || eqb b 9
+belongs Printable b = leb 32 b && leb b 126 || eqb b tab
 belongs (Other x) b = not (eqb b x)
 
 -- how many bytes of a class a text begins with: "read as far as its digits go"

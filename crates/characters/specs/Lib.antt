@@ -1,1 +1,3 @@
+pub mod Ascii
 pub mod Characters
+pub mod Named

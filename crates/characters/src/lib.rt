@@ -4,6 +4,10 @@ ghost use lib.ListN.{getD, take, drop};
 ghost use Prim.Native.Nat.{_+_};
 ghost use Rattle.characters.specs.Characters.{isDigit, isLetter, belongs, runEnd, same};
 
+pub const TAB: u8 = b'\t';
+
+pub const LINE_FEED: u8 = b'\n';
+
 // What a run consists of.
 pub enum Class {
     Space,
@@ -21,13 +25,13 @@ pub enum Class {
 pub fn is_digit(b: u8) -> bool
     ensures { λ r. ⌜ r ≡ isDigit b ⌝ }
 {
-    (48 <= b) & (b <= 57)
+    (b'0' <= b) & (b <= b'9')
 }
 
 pub fn is_letter(b: u8) -> bool
     ensures { λ r. ⌜ r ≡ isLetter b ⌝ }
 {
-    ((65 <= b) & (b <= 90)) | ((97 <= b) & (b <= 122))
+    ((b'A' <= b) & (b <= b'Z')) | ((b'a' <= b) & (b <= b'z'))
 }
 
 // Whether the byte is of the class.
@@ -35,12 +39,12 @@ pub fn is_of(class: Class, b: u8) -> bool
     ensures { λ r. ⌜ r ≡ belongs class b ⌝ }
 {
     match class {
-        Class::Space => b == 32,
-        Class::Word => is_letter(b) | is_digit(b) | (b == 46),
-        Class::Binary => (48 <= b) & (b <= 49),
-        Class::Octal => (48 <= b) & (b <= 55),
+        Class::Space => b == b' ',
+        Class::Word => is_letter(b) | is_digit(b) | (b == b'.'),
+        Class::Binary => (b'0' <= b) & (b <= b'1'),
+        Class::Octal => (b'0' <= b) & (b <= b'7'),
         Class::Decimal => is_digit(b),
-        Class::Printable => ((32 <= b) & (b <= 126)) | (b == 9),
+        Class::Printable => ((32 <= b) & (b <= 126)) | (b == TAB),
         Class::Other(x) => b != x,
     }
 }

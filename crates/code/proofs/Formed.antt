@@ -6,7 +6,7 @@ use Prim.Native.Nat.{ℕ, zero, suc, _≤_, _<_}
 use native.Mathlib.Omega.{arith}
 use lib.ListN.{length}
 use Rattle.word.specs.Word.{widest}
-use Rattle.names.specs.Names.{Named}
+use Rattle.characters.specs.Named.{Named}
 use Rattle.operators.specs.declared.Widths.{Widths}
 use Rattle.operators.specs.declared.Widths.the-variants.{Left, Sum, Carry, One, Wider}
 use Rattle.operators.specs.Operators.{rowOf, entryIn, widthBy}

@@ -8,7 +8,7 @@ use Prim.Native.Nat.{ℕ, _^_, _≤_, _<_}
 use lib.Dec.{eqb}
 use lib.ListN.{length}
 use Rattle.word.specs.Word.{widest}
-use Rattle.names.specs.Names.{Named}
+use Rattle.characters.specs.Named.{Named}
 use Rattle.operators.specs.declared.Operator.{Operator}
 use Rattle.operators.specs.Operators.{rowOf, entryIn, strongest, rotations}
 use Rattle.bit_parts.specs.References.{widthIn}

@@ -7,6 +7,7 @@ use mathlib.Core.List.{List}
 use lib.Dec.{eqb, leb, ltb}
 use lib.ListN.{getD}
 use Rattle.word.specs.Word.{fits}
+use Rattle.characters.specs.Ascii.{byteOf, digit}
 use Rattle.characters.specs.Characters.{isDigit, runEnd}
 use Rattle.characters.specs.declared.Class.{Class}
 use Rattle.characters.specs.declared.Class.the-variants.{Word, Binary, Octal, Decimal}
@@ -22,10 +23,10 @@ numberAt base s at (suc n) v = numberAt base s (at + 1) n (v * base + getD s at 
 
 -- the marks `'` and `#`
 abbrev pub binaryMark : ℕ
-binaryMark = 39
+binaryMark = byteOf "'"
 
 abbrev pub octalMark : ℕ
-octalMark = 35
+octalMark = byteOf "#"
 
 -- the limits that the sentence above names; a decimal up to 32767 has at most 5 digits
 abbrev pub binaryDigits : ℕ
@@ -40,9 +41,9 @@ decimalDigits = 5
 abbrev pub largest : ℕ
 largest = 32767
 
--- whether the run from `at` to `end`, in which digits reach as far as `digits`, is a decimal "without leading zeros" (48 is `0`) that is not too long
+-- whether the run from `at` to `end`, in which digits reach as far as `digits`, is a decimal "without leading zeros" that is not too long
 abbrev pub isPlain : ℕ → ℕ → ℕ → ℕ → Bool
-isPlain first at digits end = eqb digits end && leb end (at + decimalDigits) && (not (eqb first 48) || eqb end (at + 1))
+isPlain first at digits end = eqb digits end && leb end (at + decimalDigits) && (not (eqb first (digit 0)) || eqb end (at + 1))
 
 -- "a run of letters, digits and dots, is one token": a decimal is a whole run
 unfoldable pub decimalAt : List ℕ → ℕ → Number

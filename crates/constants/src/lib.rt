@@ -56,7 +56,9 @@ pub fn decimal_at(s: &[u8], at: usize) -> Number
     let first = s[at];
     let end = characters::run_end(s, at, Class::Word);
     let digits = characters::run_end(s, at, Class::Decimal);
-    let plain = (digits == end) & (end <= at + DECIMAL_DIGITS) & ((first != 48) | (end == at + 1));
+    let plain = (digits == end)
+        & (end <= at + DECIMAL_DIGITS)
+        & ((first != b'0') | (end == at + 1));
     if characters::is_digit(first) & plain {
         let value = digits_value(s, at, end - at, 10);
         if value <= LARGEST {

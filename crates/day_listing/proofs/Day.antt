@@ -7,7 +7,8 @@ use Rattle.operate.specs.Operate.{changed, rotated, skips, group1, group2, oper
 use Rattle.machine.specs.Interrupt.{interruptTest}
 use Rattle.pdp8.specs.Step.{execute, step}
 use Rattle.pdp8.specs.Run.{runFrom, run}
-use Rattle.page.specs.Text.{ascii, octal, decimalIn, decimal}
+use Rattle.characters.specs.Ascii.{ascii}
+use Rattle.page.specs.Text.{octal, decimalIn, decimal}
 use Rattle.image.specs.Input.{linesOf, formed, fit, octalValue, addressOf, wordOf, clear, loaded, firstUnfit}
 use Rattle.last_lines.specs.LastLines.{endLine}
 use Rattle.day_listing.specs.Listing.{stepLine, stepLines, runListing, dayListing}

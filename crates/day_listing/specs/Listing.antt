@@ -10,7 +10,8 @@ use Rattle.state.specs.declared.Verdict.the-variants.{Fit, Unfit}
 use Rattle.machine.specs.State.{State, word}
 use Rattle.pdp8.specs.Step.{step}
 use Rattle.pdp8.specs.Run.{run}
-use Rattle.page.specs.Text.{ascii, tab, lineFeed, octal, decimal}
+use Rattle.characters.specs.Ascii.{ascii, tab, lineFeed}
+use Rattle.page.specs.Text.{octal, decimal}
 use Rattle.last_lines.specs.LastLines.{endLine, refusedLine}
 use Rattle.image.specs.Input.{linesOf, clear, loaded, firstUnfit}
 use Rattle.image.specs.Scan.{Scan, unfitLine}

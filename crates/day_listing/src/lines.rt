@@ -1,6 +1,6 @@
 // The line of a step.
 use crate::PAGE_BYTES;
-use page::LINE_FEED;
+use characters::LINE_FEED;
 use page::put_byte;
 use page::put_decimal;
 use page::put_field;

@@ -9,7 +9,8 @@ use lib.Dec.{ltb}
 use lib.ListN.{length, take, drop}
 use borrow.Author.Tests.{lt-ltb, le-ltb}
 use Rattle.fields.specs.Fields.{field, hasFields}
-use Rattle.names.specs.Names.{Named, entries, Added}
+use Rattle.characters.specs.Named.{Named}
+use Rattle.names.specs.Dictionaries.{entries, Added}
 use Rattle.constants.specs.Constants.{decimalAt}
 use Rattle.names.specs.declared.Dictionary.{Dictionary}
 use Rattle.names.proofs.Entries.{entries-length}

@@ -10,7 +10,8 @@ use lib.ListN.{length, take, drop, length-drop}
 use lib.Seq.{drop-drop}
 use borrow.Author.Tests.{ltb-true}
 use Rattle.characters.specs.Characters.{same}
-use Rattle.fields.specs.Fields.{tab, until, before, after, field, hasFields}
+use Rattle.characters.specs.Ascii.{tab}
+use Rattle.fields.specs.Fields.{until, before, after, field, hasFields}
 use Rattle.characters.specs.declared.Class.the-variants.{Other}
 use Rattle.characters.proofs.Runs.{run-le}
 use Rattle.fields.proofs.Lines.{before-length, few-fields, next-field, first-field}

@@ -7,8 +7,10 @@ use mathlib.Core.List.{List, [], _∷_, _++_}
 use lib.Dec.{eqb, leb, ltb}
 use lib.ListN.{length}
 use Rattle.word.specs.Word.{widest}
+use Rattle.characters.specs.Ascii.{ascii}
 use Rattle.fields.specs.Fields.{field, hasFields}
-use Rattle.names.specs.Names.{Named, isName, find}
+use Rattle.characters.specs.Named.{Named, among}
+use Rattle.names.specs.Names.{isName}
 use Rattle.constants.specs.Constants.{decimalAt}
 use Rattle.constants.specs.declared.Number.{Number}
 use Rattle.constants.specs.declared.Number.the-variants.{Plain, Unread}
@@ -20,16 +22,16 @@ use Rattle.text_limits.specs.Limits.{mostRegisters, mostLabels}
 
 -- the first words
 abbrev pub regWord : List ℕ
-regWord = 114 ∷ 101 ∷ 103 ∷ []
+regWord = ascii "reg"
 
 abbrev pub doWord : List ℕ
-doWord = 100 ∷ 111 ∷ []
+doWord = ascii "do"
 
 abbrev pub goWord : List ℕ
-goWord = 103 ∷ 111 ∷ []
+goWord = ascii "go"
 
 abbrev pub atWord : List ℕ
-atWord = 97 ∷ 116 ∷ []
+atWord = ascii "at"
 
 -- what was read so far; `missing` is the line of the first `go` whose label isn't there, 0 if there is none
 pub record Progress : Type 0 where
@@ -44,10 +46,6 @@ pub record Progress : Type 0 where
 pub data Step : Type 0 where
   refused : Fault → Step
   next : Progress → Step
-
--- whether a name stands in a list
-abbrev pub among : List ℕ → List Named → Bool
-among s es = ltb (find s es) (length es)
 
 -- the number that was read, and the place after it
 abbrev pub widthOf : Number → ℕ

@@ -3,7 +3,7 @@
 -- Assumes nothing.
 use Prim.Native.Nat.{ℕ, _+_}
 use mathlib.Core.List.{List}
-use Rattle.names.specs.Names.{Named}
+use Rattle.characters.specs.Named.{Named}
 use Rattle.code.specs.Tree.{Expr, pieces, Destination, toRegister, toPart, toMemory, nowhere}
 
 pub data Row : Type 0 where

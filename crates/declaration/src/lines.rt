@@ -10,10 +10,11 @@ ghost use Prim.Native.Nat.{_+_, _≤_};
 ghost use lib.ListN.{length, take, drop};
 ghost use Rattle.characters.specs.Characters.{same};
 ghost use Rattle.fields.specs.Fields.{field};
-ghost use Rattle.names.specs.Names.{entries};
+ghost use Rattle.names.specs.Dictionaries.{entries};
 ghost use Rattle.declaration.specs.declared.lines.Status.the-variants.{Goes, Refused};
 ghost use Rattle.text_limits.specs.Limits.{mostBytes};
-ghost use Rattle.declaration.specs.Lines.{regWord, atWord, among, widthOf, isWidth, isNewName, addRegister, regLine, isNewLabel, addLabel, atLine};
+ghost use Rattle.characters.specs.Named.{among};
+ghost use Rattle.declaration.specs.Lines.{regWord, atWord, widthOf, isWidth, isNewName, addRegister, regLine, isNewLabel, addLabel, atLine};
 ghost use Rattle.declaration.specs.Stored.{Within, Plain};
 
 // What was read so far: registers and labels, the rows, words and pieces counted, whether a line of another kind than `reg` came, and the line of the

@@ -10,8 +10,10 @@ use lib.ListN.{length, length-append}
 use borrow.Author.Tests.{ltb-true, leb-true, not-true}
 use Rattle.word.specs.Word.{widest}
 use Rattle.characters.specs.Characters.{same}
-use Rattle.fields.specs.Fields.{Line, lineFeed, until, before, after, lines, field, hasFields}
-use Rattle.names.specs.Names.{Named, isName}
+use Rattle.characters.specs.Ascii.{lineFeed}
+use Rattle.fields.specs.Fields.{Line, until, before, after, lines, field, hasFields}
+use Rattle.characters.specs.Named.{Named}
+use Rattle.names.specs.Names.{isName}
 use Rattle.constants.specs.Constants.{decimalAt}
 use Rattle.laws.proofs.Tests.{by-case}
 use Rattle.characters.proofs.Strings.{equal}

@@ -11,8 +11,10 @@ use lib.Seq.{drop-drop}
 use borrow.Author.Tests.{ltb-true, leb-true, leb-false}
 use Rattle.characters.specs.Characters.{same}
 use Rattle.fields.specs.Fields as fields
-use Rattle.fields.specs.Fields.{lineFeed, until, before, after, lines, firstLine}
-use Rattle.names.specs.Names.{entriesFrom, entries, find, none}
+use Rattle.characters.specs.Ascii.{lineFeed}
+use Rattle.fields.specs.Fields.{until, before, after, lines, firstLine}
+use Rattle.characters.specs.Named.{find}
+use Rattle.names.specs.Dictionaries.{entriesFrom, entries, none}
 use Rattle.names.specs.declared.Dictionary.{Dictionary}
 use Rattle.laws.proofs.Tests.{by-test}
 use Rattle.fields.proofs.Lines.{first-line, no-line}

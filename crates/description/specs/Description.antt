@@ -7,8 +7,9 @@ use lib.Dec.{eqb, leb, ltb}
 use lib.ListN.{length}
 use Rattle.characters.specs.Characters.{same}
 use Rattle.fields.specs.Fields as text
-use Rattle.fields.specs.Fields.{lineFeed, until, before, after, lines}
-use Rattle.names.specs.Names.{Named, find}
+use Rattle.characters.specs.Ascii.{ascii, lineFeed}
+use Rattle.fields.specs.Fields.{until, before, after, lines}
+use Rattle.characters.specs.Named.{Named, find}
 use Rattle.bit_parts.specs.References.{widthIn}
 use Rattle.declaration.specs.declared.faults.Fault.{Fault}
 use Rattle.declaration.specs.declared.faults.Fault.the-variants.{Size, Header, Line, Label, Run}
@@ -23,7 +24,7 @@ pub data Answer : Type 0 where
   turnedDown : Fault → ℕ → Answer
 
 abbrev pub runName : List ℕ
-runName = 82 ∷ 85 ∷ 78 ∷ []
+runName = ascii "RUN"
 
 -- "register RUN of width 1"
 abbrev pub hasRun : List Named → Bool
@@ -48,7 +49,7 @@ readLines p n (l ∷ ls) = elim (readLine p n ls l) [ refused k ↦ turnedDown k
 
 -- "`rows`, TAB, `1`"
 abbrev pub header : List ℕ
-header = 114 ∷ 111 ∷ 119 ∷ 115 ∷ 9 ∷ 49 ∷ []
+header = ascii "rows\t1"
 
 -- "The first line must be exactly `rows`, TAB, `1`"; "text over 16,384 bytes (line 0)"
 unfoldable pub readText : List ℕ → Answer

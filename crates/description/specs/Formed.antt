@@ -8,7 +8,7 @@ use Prim.Native.Nat.{ℕ, suc, _+_, _≤_}
 use lib.ListN.{length}
 use Rattle.characters.specs.Characters.{same}
 use Rattle.fields.specs.Fields.{Line, field}
-use Rattle.names.specs.Names.{Named}
+use Rattle.characters.specs.Named.{Named}
 use Rattle.code.specs.Formed.{Registers, Accepted, FormedDestination}
 use Rattle.declaration.specs.Rows.{Row, does, goes, rowPieces, Description}
 use Rattle.text_limits.specs.Limits.{mostRegisters, mostRows, mostLabels, allPieces}

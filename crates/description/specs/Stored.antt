@@ -6,7 +6,7 @@ use mathlib.Core.List.{List}
 use Prim.Native.Nat.{ℕ, _*_}
 use lib.ListN.{length, replicate}
 use lib.Seq.{sets}
-use Rattle.names.specs.Names.{entries, none}
+use Rattle.names.specs.Dictionaries.{entries, none}
 use Rattle.declaration.specs.declared.lines.Progress as progress
 use Rattle.declaration.specs.Rows.{Row, Description}
 use Rattle.declaration.specs.Stored.{progressOf}

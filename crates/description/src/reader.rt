@@ -1,17 +1,18 @@
 // The whole text: line by line, then what is looked for after all lines.
 use crate::limits;
+use characters::LINE_FEED;
 use code::CODE_PLACES;
 use declaration::faults::Fault;
 use declaration::lines::Progress;
 use declaration::lines::Status;
-use fields::LINE_FEED;
 use names::Dictionary;
 use row_table::TABLE_CELLS;
 ghost use mathlib.Core.Path.{_≡_};
 ghost use Prim.Native.Nat.{_≤_};
 ghost use lib.ListN.{length};
-ghost use Rattle.fields.specs.Fields.{lineFeed, after, lines};
-ghost use Rattle.names.specs.Names.{entries, none};
+ghost use Rattle.characters.specs.Ascii.{lineFeed};
+ghost use Rattle.fields.specs.Fields.{after, lines};
+ghost use Rattle.names.specs.Dictionaries.{entries, none};
 ghost use Rattle.text_limits.specs.Limits.{mostBytes};
 ghost use Rattle.description.specs.declared.reader.Verdict.the-variants as verdict;
 ghost use Rattle.description.specs.Description.{nothing, hasRun, readLines, readText};

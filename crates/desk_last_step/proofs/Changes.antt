@@ -12,7 +12,8 @@ use lib.ListN.{length, getD, set, take, length-append}
 use lib.Seq.{take-all}
 use borrow.Author.Tests.{eq-eqb, ne-eqb}
 use Rattle.word.specs.Choice.{pick}
-use Rattle.page.specs.Text.{ascii, tab, lineFeed, octal}
+use Rattle.characters.specs.Ascii.{ascii, tab, lineFeed}
+use Rattle.page.specs.Text.{octal}
 use Rattle.page.proofs.Numbers.{octal-length}
 use Rattle.desk_mnemonics.specs.Mnemonics.{mnemonic}
 use Rattle.desk_mnemonics.proofs.Names.{mnemonic-size}

@@ -5,7 +5,8 @@ use Prim.Native.Nat.{ℕ, suc}
 use lib.Dec.{eqb}
 use lib.ListN.{getD}
 use Rattle.word.specs.Choice.{pick, choose}
-use Rattle.page.specs.Text.{ascii, tab, lineFeed, octal}
+use Rattle.characters.specs.Ascii.{ascii, tab, lineFeed}
+use Rattle.page.specs.Text.{octal}
 use Rattle.desk_mnemonics.specs.Mnemonics.{mnemonic}
 
 -- a line's first word, "its address, the word" there

@@ -1,6 +1,6 @@
 // What the last step of a run did: its instruction, and the words of memory that it changed.
+use characters::LINE_FEED;
 use desk_mnemonics::put_mnemonic;
-use page::LINE_FEED;
 use page::put_byte;
 use page::put_field;
 use page::put_text;

@@ -7,7 +7,8 @@ use Rattle.word.specs.Choice.{choose}
 use Rattle.word.specs.Word.{wordBits, bits}
 use Rattle.machine.specs.Instruction.{flag}
 use Rattle.reference.specs.Address.{firstAddress}
-use Rattle.page.specs.Text.{ascii, octal}
+use Rattle.characters.specs.Ascii.{ascii}
+use Rattle.page.specs.Text.{octal}
 use Rattle.desk_mnemonics.specs.Mnemonics.{names, namesOf, spaced, mnemonic}
 
 -- "a name for each bit that selects something"

@@ -14,7 +14,8 @@ use Rattle.laws.proofs.Joined.{and-left, and-right}
 use Rattle.word.specs.Choice.{on, pick}
 use Rattle.machine.specs.Instruction.{op, ib}
 use Rattle.reference.specs.Address.{firstAddress}
-use Rattle.page.specs.Text.{ascii, tab, octal}
+use Rattle.characters.specs.Ascii.{ascii, tab}
+use Rattle.page.specs.Text.{octal}
 use Rattle.page.proofs.Numbers.{octal-length}
 use Rattle.desk_mnemonics.specs.declared.Name.{Name}
 use Rattle.desk_mnemonics.specs.Mnemonics.{names, noName, isNamed, namesOf, unnamed, space, spaced, parted, operandMark, operand, operandOf, mnemonic, nameBytes, namesBytes, operandBytes, mnemonicBytes}

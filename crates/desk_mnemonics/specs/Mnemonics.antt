@@ -8,7 +8,8 @@ use lib.Dec.{eqb, ltb}
 use Rattle.word.specs.Choice.{pick, choose}
 use Rattle.machine.specs.Instruction.{op, ib}
 use Rattle.reference.specs.Address.{firstAddress}
-use Rattle.page.specs.Text.{ascii, octal}
+use Rattle.characters.specs.Ascii.{ascii}
+use Rattle.page.specs.Text.{octal}
 use Rattle.desk_mnemonics.specs.declared.Name.{Name}
 
 -- The names, "in this order": each with the bits that it goes by, and with its code in the handbook, which has these bits as they are in every instruction of

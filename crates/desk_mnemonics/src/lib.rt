@@ -1,5 +1,5 @@
 // Mnemonics: an instruction by the handbook's names.
-use page::TAB;
+use characters::TAB;
 use page::put_byte;
 use page::put_octal;
 use page::put_text;
@@ -9,7 +9,7 @@ ghost use mathlib.Core.List.{[], _∷_};
 ghost use Prim.Native.Nat.{_+_, _<_, _≤_};
 ghost use lib.ListN.{length, getD};
 ghost use Rattle.word.specs.Choice.{pick};
-ghost use Rattle.page.specs.Text.{tab};
+ghost use Rattle.characters.specs.Ascii.{tab};
 ghost use Rattle.page.specs.Written.{Written};
 ghost use Rattle.desk_mnemonics.specs.Mnemonics.{names, noName, isNamed, namesOf, unnamed, space, parted, operandMark, operand, mnemonic, nameBytes, namesBytes, operandBytes, mnemonicBytes};
 

@@ -10,11 +10,11 @@ use borrow.Author.Tests.{ltb-true, leb-true}
 use Rattle.word.specs.Word.{fits}
 use Rattle.state.specs.Limits.{budgetLimit}
 use Rattle.machine.specs.State.{widths}
-use Rattle.page.specs.Text.{ascii}
+use Rattle.characters.specs.Ascii.{ascii}
 use Rattle.characters.specs.Characters.{same}
 use Rattle.constants.specs.Constants.{numberAt}
 use Rattle.fields.specs.Fields.{field, hasFields}
-use Rattle.names.specs.Names.{find}
+use Rattle.characters.specs.Named.{find}
 use Rattle.characters.specs.declared.Class.the-variants.{Octal, Decimal}
 use Rattle.laws.proofs.Tests.{by-case}
 use Rattle.laws.proofs.Joined.{and-left, and-right}

@@ -3,11 +3,11 @@
 use mathlib.Core.Path.{_≡_, refl}
 use mathlib.Core.List.{[], _∷_, map}
 use lib.ListN.{replicate}
-use Rattle.page.specs.Text.{ascii}
+use Rattle.characters.specs.Ascii.{ascii}
 use Rattle.characters.specs.Characters.{run, runEnd, same}
 use Rattle.constants.specs.Constants.{numberAt}
 use Rattle.fields.specs.Fields.{field, hasFields}
-use Rattle.names.specs.Names.{find}
+use Rattle.characters.specs.Named.{find}
 use Rattle.entry.specs.Lines.{wordEntry, registerEntry, budgetEntry, said, entry}
 use Rattle.entry.specs.declared.Entry.the-variants.{Word, Register, Budget, Unfit}
 

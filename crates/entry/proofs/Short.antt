@@ -10,10 +10,10 @@ use lib.ListN.{length, getD, length-drop}
 use borrow.Author.Tests.{ltb-true, leb-true, eqb-true}
 use Rattle.machine.specs.State.{widths}
 use Rattle.machine.proofs.Registers.{width-le}
-use Rattle.page.specs.Text.{ascii}
+use Rattle.characters.specs.Ascii.{ascii, tab}
 use Rattle.characters.specs.Characters.{same}
-use Rattle.fields.specs.Fields.{tab, until, after, field, hasFields}
-use Rattle.names.specs.Names.{Named, find}
+use Rattle.fields.specs.Fields.{until, after, field, hasFields}
+use Rattle.characters.specs.Named.{Named, find}
 use Rattle.characters.specs.declared.Class.the-variants.{Octal}
 use Rattle.fields.proofs.Lines.{before-length}
 use Rattle.characters.proofs.Strings.{equal}

@@ -9,11 +9,11 @@ use lib.Dec.{eqb, leb, ltb}
 use Rattle.word.specs.Word.{wordBits, fits}
 use Rattle.state.specs.Limits.{budgetLimit}
 use Rattle.machine.specs.State.{lacBits, widths}
-use Rattle.page.specs.Text.{ascii}
+use Rattle.characters.specs.Ascii.{ascii}
 use Rattle.characters.specs.Characters.{runEnd, same}
 use Rattle.constants.specs.Constants.{numberAt}
 use Rattle.fields.specs.Fields.{field, hasFields}
-use Rattle.names.specs.Names.{Named, find}
+use Rattle.characters.specs.Named.{Named, find}
 use Rattle.characters.specs.declared.Class.{Class}
 use Rattle.characters.specs.declared.Class.the-variants.{Octal, Decimal}
 use Rattle.entry.specs.declared.Entry.{Entry}

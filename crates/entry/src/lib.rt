@@ -5,7 +5,7 @@ ghost use mathlib.Core.Path.{_≡_};
 ghost use Prim.Native.Nat.{_<_};
 ghost use lib.ListN.{length, getD};
 ghost use Rattle.machine.specs.State.{widths};
-ghost use Rattle.names.specs.Names.{find};
+ghost use Rattle.characters.specs.Named.{find};
 ghost use Rattle.entry.specs.Lines.{machineRegisters, isDigits, wordEntry, registerEntry, budgetEntry, said, entry};
 
 pub const REGISTERS: usize = 6;

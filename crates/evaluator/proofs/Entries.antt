@@ -23,7 +23,8 @@ use Rattle.state.specs.declared.Verdict.{Verdict}
 use Rattle.state.specs.declared.Verdict.the-variants.{Fit, Unfit}
 use Rattle.state.proofs.Accepted.{row-list-long, both-fit, state-sound}
 use Rattle.text_limits.specs.Limits.{mostRows}
-use Rattle.names.specs.Names.{Named, entries, find}
+use Rattle.characters.specs.Named.{Named, find}
+use Rattle.names.specs.Dictionaries.{entries}
 use Rattle.laws.proofs.Joined.{and-left}
 use Rattle.laws.proofs.Tests.{by-test}
 use Rattle.bit_parts.specs.References.{widthIn}

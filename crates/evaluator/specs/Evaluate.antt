@@ -8,7 +8,7 @@ use Rattle.state.specs.Refusals as state
 use Rattle.state.specs.Checks.{checkState, checkRowList}
 use Rattle.state.specs.declared.Verdict.{Verdict}
 use Rattle.state.specs.declared.Verdict.the-variants.{Fit, Unfit}
-use Rattle.names.specs.Names.{Named}
+use Rattle.characters.specs.Named.{Named}
 use Rattle.declaration.specs.Rows.{Description}
 use Rattle.declaration.specs.Faults.{numberOf}
 use Rattle.description.specs.Description as text

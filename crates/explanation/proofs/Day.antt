@@ -10,7 +10,8 @@ use Rattle.reference.specs.Reference.{operation, reference}
 use Rattle.operate.specs.Operate.{changed, rotated, skips, group1, group2, operate}
 use Rattle.pdp8.specs.Step.{execute, step}
 use Rattle.pdp8.specs.Run as steps
-use Rattle.page.specs.Text.{ascii, octal, decimalIn, decimal}
+use Rattle.characters.specs.Ascii.{ascii}
+use Rattle.page.specs.Text.{octal, decimalIn, decimal}
 use Rattle.day_listing.specs.Listing as listing
 use Rattle.last_lines.specs.LastLines.{endLine}
 use Rattle.image.specs.Input.{clear}
@@ -18,7 +19,7 @@ use Rattle.characters.specs.Characters as bytes
 use Rattle.characters.specs.Characters.{runEnd, same}
 use Rattle.constants.specs.Constants.{numberAt}
 use Rattle.fields.specs.Fields.{lines, field, hasFields}
-use Rattle.names.specs.Names.{find}
+use Rattle.characters.specs.Named.{find}
 use Rattle.cycles.specs.Cycle.{cycleFrom}
 use Rattle.cycles.specs.Run as cycles
 use Rattle.pdp8_rows.specs.Text.{shippedText}

@@ -12,7 +12,8 @@ use Rattle.laws.proofs.Tests.{by-test}
 use Rattle.word.specs.Choice.{on}
 use Rattle.state.specs.declared.Reason.{Reason}
 use Rattle.state.specs.declared.Reason.the-variants.{Halted, Spent}
-use Rattle.page.specs.Text.{ascii, tab, lineFeed, digit, octal, decimalIn, decimal}
+use Rattle.characters.specs.Ascii.{ascii, tab, lineFeed, digit}
+use Rattle.page.specs.Text.{octal, decimalIn, decimal}
 use Rattle.image.proofs.Cut.{clean, clean-append, cut-first, Whole, whole-none, whole-append, whole-feed}
 use Rattle.machine.specs.declared.Machine.{Machine}
 use Rattle.machine.specs.State.{State, word, start}

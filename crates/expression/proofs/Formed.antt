@@ -11,7 +11,7 @@ use borrow.Author.Tests.{ltb-true, ltb-false, leb-true, eqb-true, ne-eqb}
 use Rattle.word.specs.Word.{widest}
 use Rattle.characters.specs.Characters.{isLetter, runEnd, same}
 use Rattle.constants.specs.Constants.{constantAt, decimalAt}
-use Rattle.names.specs.Names.{Named}
+use Rattle.characters.specs.Named.{Named}
 use Rattle.characters.specs.declared.Class.the-variants as class
 use Rattle.constants.specs.declared.Number.{Number}
 use Rattle.constants.specs.declared.Number.the-variants.{Plain, Unread}

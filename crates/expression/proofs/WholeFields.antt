@@ -8,7 +8,7 @@ use native.Mathlib.Omega.{arith}
 use lib.Dec.{eqb, leb}
 use lib.ListN.{length}
 use borrow.Author.Tests.{le-leb, lt-leb, leb-true, leb-false}
-use Rattle.names.specs.Names.{Named}
+use Rattle.characters.specs.Named.{Named}
 use Rattle.laws.proofs.Tests.{by-test}
 use Rattle.code.specs.declared.Cursor.{Cursor}
 use Rattle.code.specs.declared.Part.{Part}

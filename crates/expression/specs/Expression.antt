@@ -6,8 +6,9 @@ use mathlib.Core.Bool.{Bool, true, false, not, _&&_}
 use mathlib.Core.List.{List}
 use lib.Dec.{eqb, leb}
 use lib.ListN.{length, getD}
+use Rattle.characters.specs.Ascii.{byteOf}
 use Rattle.characters.specs.Characters.{runEnd, same}
-use Rattle.names.specs.Names.{Named}
+use Rattle.characters.specs.Named.{Named}
 use Rattle.characters.specs.declared.Class.the-variants.{Word}
 use Rattle.bit_parts.specs.declared.Reference.{Reference}
 use Rattle.bit_parts.specs.declared.Reference.the-variants.{Whole, Part, Unknown}
@@ -20,7 +21,7 @@ use Rattle.grammar.specs.Grammar.{level, fuel}
 
 -- "not at its ends"
 abbrev pub trimmed : List ℕ → Bool
-trimmed s = not (eqb (getD s 0 0) 32) && not (eqb (getD s (length s - 1) 0) 32)
+trimmed s = not (eqb (getD s 0 0) (byteOf " ")) && not (eqb (getD s (length s - 1) 0) (byteOf " "))
 
 unfoldable pub whole : List ℕ → Reading → Reading
 whole s (read t p) = elim (eqb p (length s) && leb (pieces t) mostPieces) [ true ↦ read t p | false ↦ outside ]

@@ -11,7 +11,8 @@ use lib.Dec.{eqb, ltb, leb·suc-suc}
 use lib.ListN.{length, take, drop, length-take, length-drop}
 use borrow.Author.Tests.{lt-ltb}
 use Rattle.characters.specs.Characters.{run}
-use Rattle.fields.specs.Fields.{tab, lineFeed, until, before, after, push, lines, firstLine, field, hasFields}
+use Rattle.characters.specs.Ascii.{tab, lineFeed}
+use Rattle.fields.specs.Fields.{until, before, after, push, lines, firstLine, field, hasFields}
 use Rattle.characters.specs.declared.Class.the-variants.{Other}
 use Rattle.characters.proofs.Runs.{run-le, run-more, run-none}
 use Rattle.laws.proofs.Tests.{by-test}

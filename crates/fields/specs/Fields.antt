@@ -5,14 +5,9 @@ use mathlib.Core.Bool.{Bool, true, false, _&&_}
 use mathlib.Core.List.{List, [], _∷_}
 use lib.Dec.{eqb, ltb}
 use lib.ListN.{length, take, drop}
+use Rattle.characters.specs.Ascii.{tab, lineFeed}
 use Rattle.characters.specs.Characters.{run}
 use Rattle.characters.specs.declared.Class.the-variants.{Other}
-
-abbrev pub tab : ℕ
-tab = 9
-
-abbrev pub lineFeed : ℕ
-lineFeed = 10
 
 -- how many bytes stand before the first byte b, all of them if there is none
 abbrev pub until : ℕ → List ℕ → ℕ

@@ -1,11 +1,8 @@
 // Lines and fields, each a part of the caller's text.
 use characters::Class;
+use characters::TAB;
 ghost use mathlib.Core.Path.{_≡_};
 ghost use Rattle.fields.specs.Fields.{before, after, field, hasFields};
-
-pub const TAB: u8 = 9;
-
-pub const LINE_FEED: u8 = 10;
 
 // What stands before the first byte b.
 pub fn part_before(s: &[u8], b: u8) -> &[u8]

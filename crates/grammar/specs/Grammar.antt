@@ -9,7 +9,7 @@ use lib.Dec.{eqb, ltb}
 use lib.ListN.{length}
 use Rattle.characters.specs.Characters.{isLetter, runEnd, same}
 use Rattle.constants.specs.Constants.{decimalAt, constantAt}
-use Rattle.names.specs.Names.{Named}
+use Rattle.characters.specs.Named.{Named}
 use Rattle.characters.specs.declared.Class.the-variants.{Word}
 use Rattle.operators.specs.Operators.{entryIn, weakest, strongest, rotations}
 use Rattle.tokens.specs.Tokens.{roundOpen, roundClose, squareOpen, squareClose, notToken, memoryToken, skip, next, slice, operatorAt, operatorEnd}

@@ -13,7 +13,7 @@ ghost use Prim.Native.Nat.{_+_, _-_, _≤_, _<_};
 ghost use lib.ListN.{getD};
 ghost use Rattle.characters.specs.Characters.{isLetter};
 ghost use Rattle.word.specs.Word.{widest};
-ghost use Rattle.names.specs.Names.{entries, places};
+ghost use Rattle.names.specs.Dictionaries.{entries, places};
 ghost use Rattle.operators.specs.Operators.{strongest, entryIn};
 ghost use Rattle.tokens.specs.Tokens.{operatorAt};
 ghost use Rattle.code.specs.Readings.{read};

@@ -13,7 +13,7 @@ use lib.Seq.{take-all, take-append-le, drop-append-le, append-snoc}
 use borrow.Author.Tests.{lt-ltb, le-ltb, eqb-true}
 use Rattle.word.specs.Choice.{on, pick}
 use Rattle.word.proofs.Choice.{on-some}
-use Rattle.page.specs.Text.{lineFeed}
+use Rattle.characters.specs.Ascii.{lineFeed}
 use Rattle.image.specs.Input.{linesOf, form, formed, fit, addressOf, wordOf, clear, loaded, firstUnfit}
 use Rattle.image.specs.Pass.{pass, Countable}
 use Rattle.image.specs.Scan.{Scan, held, accepted, refusing, scanByte, scanOf, unfitLine}

@@ -9,7 +9,7 @@ use lib.ListN.{length}
 use lib.Dec.{eqb}
 use Rattle.laws.proofs.Joined.{and-both}
 use Rattle.laws.proofs.Tests.{by-test}
-use Rattle.page.specs.Text.{lineFeed}
+use Rattle.characters.specs.Ascii.{lineFeed}
 use Rattle.image.specs.Input.{push, linesOf, form, formed}
 use Rattle.image.proofs.Form.{no-feed}
 

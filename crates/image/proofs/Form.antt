@@ -12,7 +12,7 @@ use borrow.Author.Tests.{ne-eqb, eqb-true, leb-true}
 use Rattle.laws.proofs.Joined.{and-both}
 use Rattle.word.specs.Choice.{pick}
 use Rattle.state.specs.Limits.{memoryWords}
-use Rattle.page.specs.Text.{lineFeed, digit}
+use Rattle.characters.specs.Ascii.{lineFeed, digit}
 use Rattle.image.specs.Input.{isOctal, form, formed, fit, octalValue, addressOf, wordOf}
 use Rattle.image.specs.Scan.{shifted}
 

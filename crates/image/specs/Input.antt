@@ -7,7 +7,7 @@ use lib.ListN.{length, take, drop, set, replicate}
 use lib.Dec.{eqb, leb}
 use Rattle.word.specs.Choice.{pick}
 use Rattle.state.specs.Limits.{memoryWords}
-use Rattle.page.specs.Text.{tab, lineFeed, digit}
+use Rattle.characters.specs.Ascii.{tab, lineFeed, digit}
 
 -- a byte put before the first line
 abbrev pub push : ℕ → List (List ℕ) → List (List ℕ)

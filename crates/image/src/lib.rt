@@ -1,6 +1,6 @@
 // An image, read byte by byte: lines of four-digit octal address, TAB, four-digit octal word. The words are loaded as they come.
-use page::LINE_FEED;
-use page::TAB;
+use characters::LINE_FEED;
+use characters::TAB;
 use state::MEMORY_WORDS;
 ghost use mathlib.Core.Path.{_≡_};
 ghost use mathlib.Core.List.{[]};

@@ -14,7 +14,8 @@ use Rattle.word.specs.Choice.{on, pick}
 use Rattle.word.proofs.Choice.{on-some}
 use Rattle.image.specs.Pass.{pass, nextLine, Countable}
 use Rattle.characters.specs.Characters.{run}
-use Rattle.fields.specs.Fields.{lineFeed, Line, push, lines, hasFields}
+use Rattle.characters.specs.Ascii.{lineFeed}
+use Rattle.fields.specs.Fields.{Line, push, lines, hasFields}
 use Rattle.laws.proofs.Tests.{by-test}
 use Rattle.entry.specs.Lines.{entry, isUnfit, lineBytes}
 use Rattle.inquiry.specs.Input.{Inquiry, ready, lineEntry, entered, asked, firstUnfit}

@@ -16,7 +16,8 @@ use Rattle.word.specs.Choice.{pick}
 use Rattle.image.specs.Input as image
 use Rattle.image.specs.Input.{linesOf, form, formed, fit, addressOf, wordOf, clear, loaded}
 use Rattle.image.proofs.Cut.{clean}
-use Rattle.fields.specs.Fields.{lineFeed, Line, push, lines}
+use Rattle.characters.specs.Ascii.{lineFeed}
+use Rattle.fields.specs.Fields.{Line, push, lines}
 use Rattle.entry.specs.Lines.{isUnfit}
 use Rattle.entry.specs.declared.Entry.{Entry}
 use Rattle.entry.specs.declared.Entry.the-variants.{Word}

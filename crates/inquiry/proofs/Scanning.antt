@@ -11,7 +11,7 @@ use lib.ListN.{length, take, set}
 use lib.Seq.{take-suc-set, length-take-le, take-all}
 use borrow.Author.Tests.{lt-ltb, le-ltb}
 use Rattle.word.specs.Choice.{on}
-use Rattle.fields.specs.Fields.{lineFeed}
+use Rattle.characters.specs.Ascii.{lineFeed}
 use Rattle.entry.specs.Lines.{entry, isUnfit, lineBytes}
 use Rattle.inquiry.specs.Scan.{Scan, longer, refusing, entering, atNextLine, ended, scanByte}
 use Rattle.entry.specs.declared.Entry.{Entry}

@@ -16,7 +16,8 @@ use Rattle.state.proofs.Accepted.{registers-fitting, store-acceptable, store-fi
 use Rattle.machine.specs.State.{widths}
 use Rattle.image.specs.Pass.{pass}
 use Rattle.image.proofs.Sound.{clear-acceptable}
-use Rattle.fields.specs.Fields.{lineFeed, field}
+use Rattle.characters.specs.Ascii.{lineFeed}
+use Rattle.fields.specs.Fields.{field}
 use Rattle.laws.proofs.Tests.{by-case}
 use Rattle.entry.specs.Lines.{entry, isUnfit, lineBytes}
 use Rattle.inquiry.specs.Input.{Inquiry, ready, entered}

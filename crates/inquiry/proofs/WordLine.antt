@@ -11,7 +11,7 @@ use lib.ListN.{length, getD, drop, length-append}
 use borrow.Author.Tests.{ne-eqb, eqb-true, leb-true, ltb-true}
 use Rattle.laws.proofs.Joined.{and-both}
 use Rattle.laws.proofs.Tests.{by-test}
-use Rattle.page.specs.Text.{ascii, digit, tab, lineFeed}
+use Rattle.characters.specs.Ascii.{ascii, digit, tab, lineFeed}
 use Rattle.image.specs.Input.{isOctal, formed, fit, octalValue, addressOf, wordOf}
 use Rattle.characters.specs.Characters.{belongs, run, runEnd, same}
 use Rattle.characters.specs.declared.Class.{Class}
@@ -20,7 +20,7 @@ use Rattle.characters.proofs.Runs.{run-more, run-none}
 use Rattle.characters.proofs.Strings.{equal}
 use Rattle.constants.specs.Constants.{numberAt}
 use Rattle.fields.specs.Fields.{until, after, field, hasFields}
-use Rattle.names.specs.Names.{Named, find}
+use Rattle.characters.specs.Named.{Named, find}
 use Rattle.entry.specs.Lines.{machineRegisters, isDigits, wordEntry, said, entry}
 use Rattle.entry.specs.declared.Entry.the-variants.{Word}
 

@@ -8,7 +8,7 @@ use lib.ListN.{length, take}
 use lib.Dec.{eqb, ltb}
 use lib.IntN.{ℤ}
 use Rattle.word.specs.Choice.{on, choose}
-use Rattle.fields.specs.Fields.{lineFeed}
+use Rattle.characters.specs.Ascii.{lineFeed}
 use Rattle.image.specs.Pass.{pass, Passed, Left, nextLine}
 use Rattle.image.specs.Read.{AfterRead}
 use Rattle.entry.specs.Lines.{lineBytes, entry, isUnfit}

@@ -1,8 +1,8 @@
 // What a run is asked for, read byte by byte: lines of an image, machine registers and a budget.
+use characters::LINE_FEED;
 use entry::Entry;
 use entry::LINE_BYTES;
 use entry::REGISTERS;
-use fields::LINE_FEED;
 use state::MEMORY_WORDS;
 ghost use mathlib.Core.Path.{_≡_};
 ghost use mathlib.Core.List.{List, []};

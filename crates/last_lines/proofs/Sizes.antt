@@ -7,7 +7,8 @@ use native.Mathlib.Omega.{arith}
 use lib.ListN.{length, length-append}
 use Rattle.state.specs.declared.Reason.{Reason}
 use Rattle.state.specs.declared.Reason.the-variants.{Halted, Spent}
-use Rattle.page.specs.Text.{ascii, tab, lineFeed, decimal}
+use Rattle.characters.specs.Ascii.{ascii, tab, lineFeed}
+use Rattle.page.specs.Text.{decimal}
 use Rattle.last_lines.specs.LastLines.{reasonWord, endLine}
 
 pub end-line : (steps : ℕ) (why : Reason) → endLine steps why ≡ ascii "end\t" ++ decimal steps ++ (tab ∷ reasonWord why ++ lineFeed ∷ [])

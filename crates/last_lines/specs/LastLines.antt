@@ -4,7 +4,8 @@ use mathlib.Core.List.{List, [], _∷_, _++_}
 use Prim.Native.Nat.{ℕ}
 use Rattle.state.specs.declared.Reason.{Reason}
 use Rattle.state.specs.declared.Reason.the-variants.{Halted, Spent}
-use Rattle.page.specs.Text.{ascii, tab, lineFeed, decimal}
+use Rattle.characters.specs.Ascii.{ascii, tab, lineFeed}
+use Rattle.page.specs.Text.{decimal}
 
 -- "`halted` if RUN is 0 at the end, else `spent`"
 abbrev pub reasonWord : Reason → List ℕ

@@ -1,5 +1,5 @@
 // The last line of a run, and the one line of a refused text.
-use page::LINE_FEED;
+use characters::LINE_FEED;
 use page::put_byte;
 use page::put_decimal;
 use page::put_text;

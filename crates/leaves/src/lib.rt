@@ -12,7 +12,7 @@ ghost use mathlib.Core.List.{[], _∷_};
 ghost use Prim.Native.Nat.{_+_, _≤_, _<_};
 ghost use lib.ListN.{getD};
 ghost use Rattle.characters.specs.Characters.{isWord};
-ghost use Rattle.names.specs.Names.{entries, places};
+ghost use Rattle.names.specs.Dictionaries.{entries, places};
 ghost use Rattle.constants.specs.Constants.{constantAt};
 ghost use Rattle.bit_parts.specs.References.{referenceAt};
 ghost use Rattle.code.specs.Readings.{ofConstant, ofReference};

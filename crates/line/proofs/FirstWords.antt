@@ -11,7 +11,8 @@ use borrow.Author.Tests.{leb-true}
 use Rattle.characters.specs.Characters.{run, same}
 use Rattle.characters.specs.declared.Class.the-variants.{Other, Printable}
 use Rattle.fields.specs.Fields as fields
-use Rattle.fields.specs.Fields.{lineFeed, until, before, after, lines, field, firstLine}
+use Rattle.characters.specs.Ascii.{lineFeed}
+use Rattle.fields.specs.Fields.{until, before, after, lines, field, firstLine}
 use Rattle.laws.proofs.Joined.{and-left, and-right}
 use Rattle.characters.proofs.Runs.{run-le}
 use Rattle.fields.proofs.Lines.{before-length}

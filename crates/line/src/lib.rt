@@ -1,18 +1,19 @@
 // One line: whether it is fit, and what it comes to by its first word.
 use characters::Class;
+use characters::LINE_FEED;
 use code::CODE_PLACES;
 use declaration::faults::Fault;
 use declaration::lines;
 use declaration::lines::Progress;
 use declaration::lines::Step;
-use fields::LINE_FEED;
 use row::rows;
 use row_table::TABLE_CELLS;
 ghost use mathlib.Core.Path.{_≡_};
 ghost use Prim.Native.Nat.{_≤_};
 ghost use lib.Dec.{ltb};
 ghost use lib.ListN.{length};
-ghost use Rattle.fields.specs.Fields.{lineFeed, until, before, after, lines, firstLine};
+ghost use Rattle.characters.specs.Ascii.{lineFeed};
+ghost use Rattle.fields.specs.Fields.{until, before, after, lines, firstLine};
 ghost use Rattle.text_limits.specs.Limits.{mostBytes};
 ghost use Rattle.declaration.specs.Stored.{Within};
 ghost use Rattle.row.specs.Stored.{Takes};

@@ -11,7 +11,8 @@ use native.Mathlib.Omega.{arith}
 use lib.ListN.{length, getD, take, drop, set}
 use lib.Seq.{getD-set-same, getD-set-other}
 use Rattle.characters.specs.Characters.{same}
-use Rattle.names.specs.Names.{Named, find, entryAt, entriesFrom, entries}
+use Rattle.characters.specs.Named.{Named, find}
+use Rattle.names.specs.Dictionaries.{entryAt, entriesFrom, entries}
 use Rattle.names.specs.declared.Dictionary.{Dictionary}
 
 module _ (text : List ℕ) (d : Dictionary) where

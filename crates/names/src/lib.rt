@@ -3,7 +3,9 @@ use characters::Class;
 ghost use mathlib.Core.Path.{_≡_};
 ghost use lib.ListN.{getD};
 ghost use Prim.Native.Nat.{_+_, _<_};
-ghost use Rattle.names.specs.Names.{places, isName, find, entries, none, Added};
+ghost use Rattle.characters.specs.Named.{find};
+ghost use Rattle.names.specs.Dictionaries.{places, entries, none, Added};
+ghost use Rattle.names.specs.Names.{isName};
 
 // "1 to 20 letters, digits or dots"
 const LONGEST_NAME: usize = 20;

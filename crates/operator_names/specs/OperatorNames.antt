@@ -5,21 +5,22 @@ use mathlib.Core.Bool.{Bool, true, false, _||_}
 use mathlib.Core.List.{List, [], _∷_}
 use lib.Dec.{ltb}
 use lib.ListN.{length}
+use Rattle.characters.specs.Ascii.{ascii}
 use Rattle.characters.specs.Characters.{same}
 
 -- the operators' names, in the order of their table: Not, @, Slr, Srr, +, Eql, Neq, Lss, And, Or
 abbrev pub operatorNames : List (List ℕ)
 operatorNames =
-    (78 ∷ 111 ∷ 116 ∷ [])
-    ∷ (64 ∷ [])
-    ∷ (83 ∷ 108 ∷ 114 ∷ [])
-    ∷ (83 ∷ 114 ∷ 114 ∷ [])
-    ∷ (43 ∷ [])
-    ∷ (69 ∷ 113 ∷ 108 ∷ [])
-    ∷ (78 ∷ 101 ∷ 113 ∷ [])
-    ∷ (76 ∷ 115 ∷ 115 ∷ [])
-    ∷ (65 ∷ 110 ∷ 100 ∷ [])
-    ∷ (79 ∷ 114 ∷ [])
+    ascii "Not"
+    ∷ ascii "@"
+    ∷ ascii "Slr"
+    ∷ ascii "Srr"
+    ∷ ascii "+"
+    ∷ ascii "Eql"
+    ∷ ascii "Neq"
+    ∷ ascii "Lss"
+    ∷ ascii "And"
+    ∷ ascii "Or"
     ∷ []
 
 -- the place of a name in a list, the list's length if it isn't there
@@ -33,4 +34,4 @@ operatorRow s = findIn operatorNames s
 
 -- "Reserved as register names: M, Not, Slr, Srr, Eql, Neq, Lss, And, Or"
 abbrev pub isReserved : List ℕ → Bool
-isReserved s = same s (77 ∷ []) || ltb (operatorRow s) (length operatorNames)
+isReserved s = same s (ascii "M") || ltb (operatorRow s) (length operatorNames)

@@ -10,7 +10,8 @@ use native.Mathlib.Omega.{arith}
 use lib.ListN.{length, length-append}
 use lib.Dec.{ltb}
 use borrow.Author.Tests.{lt-ltb, le-ltb, ltb-true, ltb-false}
-use Rattle.page.specs.Text.{digit, octal, decimalIn, decimal}
+use Rattle.characters.specs.Ascii.{digit}
+use Rattle.page.specs.Text.{octal, decimalIn, decimal}
 
 pub octal-more : (n x : ℕ) → 0 < n → octal n x ≡ octal (n - 1) (x / 8) ++ digit (x % 8) ∷ []
 unfolding octal

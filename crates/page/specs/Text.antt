@@ -1,26 +1,10 @@
--- Texts as the programs write them: characters, and numbers written out. A text is the list of its bytes, which are ASCII.
+-- Numbers as the programs write them.
 -- Assumes nothing.
 use mathlib.Core.List.{List, [], _∷_, _++_}
 use mathlib.Core.Bool.{true, false}
 use Prim.Native.Nat.{ℕ, zero, suc, _+_, _/_, _%_}
-use Prim.Native.Char.{code}
-use Prim.Native.String.{String}
 use lib.Dec.{ltb}
-
--- a quoted text as the list of its bytes
-abbrev pub ascii : String → List ℕ
-ascii String.[] = []
-ascii (String._∷_ c s) = code c ∷ ascii s
-
-abbrev pub tab : ℕ
-tab = 9
-
-abbrev pub lineFeed : ℕ
-lineFeed = 10
-
--- the character of a digit
-abbrev pub digit : ℕ → ℕ
-digit d = 48 + d
+use Rattle.characters.specs.Ascii.{digit}
 
 -- the last n octal digits of x: all of them where x has no more
 unfoldable pub octal : ℕ → ℕ → List ℕ

@@ -1,14 +1,12 @@
 // Text on a page: bytes, texts and numbers, written from a place on. Each answers the place after what it wrote.
+use characters::TAB;
 ghost use Prim.Native.Nat.{_+_, _<_, _≤_};
 ghost use mathlib.Core.List.{[], _∷_};
 ghost use lib.ListN.{length};
 ghost use mathlib.Core.Path.{_≡_};
-ghost use Rattle.page.specs.Text.{tab, octal, decimal, digit as Text·digit};
+ghost use Rattle.characters.specs.Ascii.{tab, digit as Text·digit};
+ghost use Rattle.page.specs.Text.{octal, decimal};
 ghost use Rattle.page.specs.Written.{Written};
-
-pub const TAB: u8 = 9;
-
-pub const LINE_FEED: u8 = 10;
 
 // One byte.
 pub fn put_byte(page: &mut [u8], at: usize, b: u8) -> usize

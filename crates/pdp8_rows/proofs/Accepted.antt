@@ -7,7 +7,8 @@ use lib.ListN.{length}
 use Rattle.characters.specs.Characters.{run, runEnd, same}
 use Rattle.constants.specs.Constants.{numberAt, decimalAt, markedAt, shortestFrom, ofDecimal, constantAt}
 use Rattle.fields.specs.Fields.{lines, field, hasFields}
-use Rattle.names.specs.Names.{isName, find}
+use Rattle.characters.specs.Named.{find}
+use Rattle.names.specs.Names.{isName}
 use Rattle.operator_names.specs.OperatorNames.{findIn, operatorRow}
 use Rattle.tokens.specs.Tokens.{tokenEnd, operatorAt, operatorEnd}
 use Rattle.bit_parts.specs.References.{secondBit, firstBit, spanAt, partOf, registerAt, referenceAt}

@@ -11,7 +11,7 @@ use Rattle.pdp8.specs.Step.{step}
 use Rattle.pdp8.specs.Run as steps
 use Rattle.pdp8.proofs.Keeps.{step-good}
 use Rattle.characters.specs.Characters.{same}
-use Rattle.names.specs.Names.{find}
+use Rattle.characters.specs.Named.{find}
 use Rattle.description.specs.Description.{runName}
 use Rattle.value.specs.Value as rows
 use Rattle.cycles.specs.Cycle.{Cycle, cycle}

@@ -2,7 +2,8 @@
 -- Assumes nothing.
 use mathlib.Core.List.{List, [], _∷_}
 use Prim.Native.Nat.{ℕ}
-use Rattle.names.specs.Names.{Named}
+use Rattle.characters.specs.Ascii.{ascii}
+use Rattle.characters.specs.Named.{Named}
 use Rattle.operators.specs.declared.Operator.the-variants.{Join, RotateLeft, RotateRight, Add, Equal, Unequal, And, Or}
 use Rattle.code.specs.Tree.{Expr, register, bitPart, constant, memory, complemented, rotated, binary, toRegister, toPart, toMemory}
 use Rattle.declaration.specs.Rows.{Row, does, goes, Description}
@@ -14,16 +15,16 @@ mostShippedRows = 80
 -- LAC, PC, RUN, INTERRUPT.ENABLE, INTERRUPT.REQUEST, SWITCHES, i, last.pc, eadd, skip
 abbrev pub shippedRegisters : List Named
 shippedRegisters =
-    record { name = 76 ∷ 65 ∷ 67 ∷ []; number = 13 }
-    ∷ record { name = 80 ∷ 67 ∷ []; number = 12 }
-    ∷ record { name = 82 ∷ 85 ∷ 78 ∷ []; number = 1 }
-    ∷ record { name = 73 ∷ 78 ∷ 84 ∷ 69 ∷ 82 ∷ 82 ∷ 85 ∷ 80 ∷ 84 ∷ 46 ∷ 69 ∷ 78 ∷ 65 ∷ 66 ∷ 76 ∷ 69 ∷ []; number = 1 }
-    ∷ record { name = 73 ∷ 78 ∷ 84 ∷ 69 ∷ 82 ∷ 82 ∷ 85 ∷ 80 ∷ 84 ∷ 46 ∷ 82 ∷ 69 ∷ 81 ∷ 85 ∷ 69 ∷ 83 ∷ 84 ∷ []; number = 1 }
-    ∷ record { name = 83 ∷ 87 ∷ 73 ∷ 84 ∷ 67 ∷ 72 ∷ 69 ∷ 83 ∷ []; number = 12 }
-    ∷ record { name = 105 ∷ []; number = 12 }
-    ∷ record { name = 108 ∷ 97 ∷ 115 ∷ 116 ∷ 46 ∷ 112 ∷ 99 ∷ []; number = 12 }
-    ∷ record { name = 101 ∷ 97 ∷ 100 ∷ 100 ∷ []; number = 12 }
-    ∷ record { name = 115 ∷ 107 ∷ 105 ∷ 112 ∷ []; number = 1 }
+    record { name = ascii "LAC"; number = 13 }
+    ∷ record { name = ascii "PC"; number = 12 }
+    ∷ record { name = ascii "RUN"; number = 1 }
+    ∷ record { name = ascii "INTERRUPT.ENABLE"; number = 1 }
+    ∷ record { name = ascii "INTERRUPT.REQUEST"; number = 1 }
+    ∷ record { name = ascii "SWITCHES"; number = 12 }
+    ∷ record { name = ascii "i"; number = 12 }
+    ∷ record { name = ascii "last.pc"; number = 12 }
+    ∷ record { name = ascii "eadd"; number = 12 }
+    ∷ record { name = ascii "skip"; number = 1 }
     ∷ []
 
 abbrev lac : Expr

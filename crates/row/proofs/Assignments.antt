@@ -9,7 +9,7 @@ use lib.ListN.{length, length-append}
 use lib.Seq.{sets}
 use Rattle.laws.proofs.Tests.{not-so}
 use Rattle.fields.specs.Fields.{field}
-use Rattle.names.specs.Names.{Named}
+use Rattle.characters.specs.Named.{Named}
 use Rattle.code.specs.declared.Cursor.{Cursor}
 use Rattle.code.specs.Tree.{Expr, Destination, toRegister, toPart, toMemory}
 use Rattle.code.specs.Code.{codeOf}

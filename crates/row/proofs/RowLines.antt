@@ -12,7 +12,8 @@ use borrow.Author.Tests.{ltb-true, leb-true}
 use Rattle.word.specs.Choice.{pick}
 use Rattle.fields.specs.Fields as text
 use Rattle.fields.specs.Fields.{field, hasFields, lines}
-use Rattle.names.specs.Names.{entries, isName}
+use Rattle.names.specs.Dictionaries.{entries}
+use Rattle.names.specs.Names.{isName}
 use Rattle.laws.proofs.Joined.{and-left, and-right}
 use Rattle.laws.proofs.Tests.{by-test, not-so}
 use Rattle.code.specs.declared.Cursor.{Cursor}

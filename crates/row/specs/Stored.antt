@@ -10,7 +10,8 @@ use lib.Seq.{sets}
 use Rattle.word.specs.Choice.{pick}
 use Rattle.fields.specs.Fields as text
 use Rattle.fields.specs.Fields.{field}
-use Rattle.names.specs.Names.{Named, isName}
+use Rattle.characters.specs.Named.{Named}
+use Rattle.names.specs.Names.{isName}
 use Rattle.code.specs.Tree.{Expr, Destination}
 use Rattle.code.specs.Readings.{read}
 use Rattle.expression.specs.Expression.{expression, destination}

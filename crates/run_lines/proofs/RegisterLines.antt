@@ -8,7 +8,8 @@ use lib.ListN.{length, getD, drop, length-append}
 use lib.Seq.{drop-cons}
 use Rattle.machine.specs.declared.Machine.{Machine}
 use Rattle.machine.specs.State.{values}
-use Rattle.page.specs.Text.{tab, lineFeed, octal}
+use Rattle.characters.specs.Ascii.{tab, lineFeed}
+use Rattle.page.specs.Text.{octal}
 use Rattle.page.specs.Written.{Written}
 use Rattle.page.proofs.Numbers.{octal-length}
 use Rattle.entry.specs.Lines.{machineRegisters}

@@ -14,7 +14,8 @@ use Rattle.word.specs.Choice.{pick}
 use Rattle.page.specs.Text.{decimalIn, decimal}
 use Rattle.page.proofs.Numbers.{decimal-length}
 use Rattle.characters.specs.Characters.{run, same}
-use Rattle.fields.specs.Fields.{lineFeed, before, after, Line, lines, firstLine, field}
+use Rattle.characters.specs.Ascii.{lineFeed}
+use Rattle.fields.specs.Fields.{before, after, Line, lines, firstLine, field}
 use Rattle.fields.proofs.Lines.{first-line}
 use Rattle.laws.proofs.Joined.{and-left, and-right}
 use Rattle.pdp8_rows.specs.Text.{shippedText}

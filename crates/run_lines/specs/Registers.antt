@@ -3,8 +3,9 @@
 use mathlib.Core.List.{List, [], _∷_, _++_}
 use Prim.Native.Nat.{ℕ}
 use lib.ListN.{length, drop}
-use Rattle.page.specs.Text.{tab, lineFeed, octal}
-use Rattle.names.specs.Names.{Named}
+use Rattle.characters.specs.Ascii.{tab, lineFeed}
+use Rattle.page.specs.Text.{octal}
+use Rattle.characters.specs.Named.{Named}
 use Rattle.pdp8_rows.specs.Shipped.{shippedRegisters}
 use Rattle.entry.specs.Lines.{machineRegisters, digitsOf}
 

@@ -5,7 +5,8 @@ use mathlib.Core.Bool.{Bool, true, false}
 use Prim.Native.Nat.{ℕ, suc, _+_, _-_, _*_, _≤_}
 use lib.ListN.{getD}
 use Rattle.word.specs.Choice.{pick}
-use Rattle.page.specs.Text.{ascii, tab, lineFeed, decimal}
+use Rattle.characters.specs.Ascii.{ascii, tab, lineFeed}
+use Rattle.page.specs.Text.{decimal}
 use Rattle.page.specs.Written.{Written}
 use Rattle.characters.specs.Characters.{same}
 use Rattle.fields.specs.Fields.{Line, lines, field}

@@ -1,6 +1,6 @@
 // The registers after a run, each on a line: the machine's, as an inquiry may have them, and the description's working registers.
 use crate::PAGE_BYTES;
-use fields::LINE_FEED;
+use characters::LINE_FEED;
 use machine::Machine;
 use page::put_byte;
 use page::put_field;
@@ -9,7 +9,8 @@ ghost use mathlib.Core.List.{[], _∷_, _++_};
 ghost use Prim.Native.Nat.{_+_, _≤_};
 ghost use lib.ListN.{length};
 ghost use Rattle.machine.specs.State.{values};
-ghost use Rattle.page.specs.Text.{tab, lineFeed, octal};
+ghost use Rattle.characters.specs.Ascii.{tab, lineFeed};
+ghost use Rattle.page.specs.Text.{octal};
 ghost use Rattle.page.specs.Written.{Written};
 ghost use Rattle.entry.specs.Lines.{machineRegisters};
 ghost use Rattle.run_lines.specs.Registers.{registerLines, workingRegisters, workingValues, registerLinesBytes, workingLinesBytes, pageBytes};

@@ -1,7 +1,7 @@
 // The rows that acted, with their texts and the labels that they name.
 use crate::PAGE_BYTES;
-use fields::LINE_FEED;
-use fields::TAB;
+use characters::LINE_FEED;
+use characters::TAB;
 use page::put_byte;
 use page::put_decimal;
 use page::put_text;

@@ -1,5 +1,5 @@
 // Which lines are rows, and where a `go` leads.
-use fields::LINE_FEED;
+use characters::LINE_FEED;
 ghost use mathlib.Core.Path.{_≡_};
 ghost use Prim.Native.Nat.{_≤_};
 ghost use lib.ListN.{length};

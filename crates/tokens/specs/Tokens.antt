@@ -5,38 +5,39 @@ use Prim.Native.Nat.{ℕ, _+_, _-_}
 use mathlib.Core.Bool.{true, false}
 use mathlib.Core.List.{List, [], _∷_}
 use lib.ListN.{getD, take, drop}
+use Rattle.characters.specs.Ascii.{ascii, byteOf}
 use Rattle.characters.specs.Characters.{isWord, runEnd}
 use Rattle.characters.specs.declared.Class.the-variants.{Space, Word}
 use Rattle.operator_names.specs.OperatorNames.{operatorRow}
 
 -- the signs `(`, `)`, `[`, `]`, `<`, `>` and `:`
 abbrev pub roundOpen : ℕ
-roundOpen = 40
+roundOpen = byteOf "("
 
 abbrev pub roundClose : ℕ
-roundClose = 41
+roundClose = byteOf ")"
 
 abbrev pub squareOpen : ℕ
-squareOpen = 91
+squareOpen = byteOf "["
 
 abbrev pub squareClose : ℕ
-squareClose = 93
+squareClose = byteOf "]"
 
 abbrev pub angleOpen : ℕ
-angleOpen = 60
+angleOpen = byteOf "<"
 
 abbrev pub angleClose : ℕ
-angleClose = 62
+angleClose = byteOf ">"
 
 abbrev pub colon : ℕ
-colon = 58
+colon = byteOf ":"
 
 -- the words `Not` and `M`
 abbrev pub notToken : List ℕ
-notToken = 78 ∷ 111 ∷ 116 ∷ []
+notToken = ascii "Not"
 
 abbrev pub memoryToken : List ℕ
-memoryToken = 77 ∷ []
+memoryToken = ascii "M"
 
 -- the place of the next token
 abbrev pub skip : List ℕ → ℕ → ℕ

@@ -6,7 +6,8 @@ use native.Mathlib.Omega.{arith}
 use borrow.Author.Tests.{lt-ltb, le-ltb}
 use lib.ListN.{length}
 use Rattle.characters.specs.Characters.{runEnd}
-use Rattle.names.specs.Names.{Named, find, entries}
+use Rattle.characters.specs.Named.{Named, find}
+use Rattle.names.specs.Dictionaries.{entries}
 use Rattle.characters.proofs.Runs.{after-start}
 use Rattle.characters.specs.declared.Class.the-variants.{Word}
 use Rattle.bit_parts.specs.declared.Reference.the-variants.{Unknown}

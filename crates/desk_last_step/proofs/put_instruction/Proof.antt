@@ -1,7 +1,7 @@
 -- `desk_last_step::put_instruction`: address and word, the mnemonic, LF.
 use borrow.Author.Needs.{needs}
 use native.Mathlib.Omega.{arith}
-use Rattle.page.specs.Text.{ascii}
+use Rattle.characters.specs.Ascii.{ascii}
 use Rattle.page.proofs.Writing.{written-then}
 use Rattle.desk_mnemonics.proofs.Names.{mnemonic-size}
 use Rattle.desk_last_step.specs.LastStep.{lastLine}

@@ -2,7 +2,7 @@
 use borrow.Author.Needs.{needs}
 use native.Mathlib.Omega.{arith}
 use borrow.Author.Tests.{eq-eqb, ne-eqb}
-use Rattle.page.specs.Text.{ascii}
+use Rattle.characters.specs.Ascii.{ascii}
 use Rattle.page.proofs.Numbers.{octal-length}
 use Rattle.page.proofs.Writing.{written-none, written-then}
 use Rattle.desk_last_step.specs.LastStep.{wordLine}

@@ -6,7 +6,7 @@ use mathlib.Core.List.{List, _∷_}
 use Prim.Native.Nat.{ℕ, suc}
 use lib.ListN.{drop}
 use Rattle.characters.specs.Characters.{same}
-use Rattle.names.specs.Names.{Named, find}
+use Rattle.characters.specs.Named.{Named, find}
 use Rattle.entry.specs.Lines.{machineRegisters}
 use Rattle.entry.proofs.register_place.Statement.{statement}
 use Rattle.entry.proofs.register_place.Tie as tie

@@ -2,7 +2,7 @@
 use mathlib.Core.Path.{sym, ap, _∙_}
 use Prim.Native.Nat.{_+_}
 use native.Mathlib.Omega.{arith}
-use Rattle.names.specs.Names.{entries}
+use Rattle.names.specs.Dictionaries.{entries}
 use Rattle.operators.specs.declared.Entry.{Entry}
 use Rattle.operators.specs.Operators.{weakest}
 use Rattle.laws.proofs.Lists.{present}

@@ -1,7 +1,7 @@
 -- `expression::read_destination`: `M` or a name.
 use mathlib.Core.Path.{sym, _∙_}
 use native.Mathlib.Omega.{arith}
-use Rattle.names.specs.Names.{entries}
+use Rattle.names.specs.Dictionaries.{entries}
 use Rattle.characters.specs.declared.Class.the-variants as class
 use Rattle.code.specs.declared.Cursor.{Cursor}
 use Rattle.characters.proofs.Runs.{within}

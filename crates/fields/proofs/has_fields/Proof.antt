@@ -8,7 +8,8 @@ use lib.Dec.{eqb, ltb}
 use lib.ListN.{length}
 use Rattle.characters.specs.declared.Class.the-variants.{Other}
 use Rattle.characters.specs.Characters.{runEnd}
-use Rattle.fields.specs.Fields.{tab, until, hasFields}
+use Rattle.characters.specs.Ascii.{tab}
+use Rattle.fields.specs.Fields.{until, hasFields}
 use Rattle.characters.proofs.Runs.{from-start}
 use Rattle.fields.proofs.Lines.{more-fields, few-fields, last-field}
 use borrow.Author.Needs.{needs}

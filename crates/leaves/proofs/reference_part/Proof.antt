@@ -6,7 +6,8 @@ use Prim.Native.Nat.{ℕ, _+_, _-_, _≤_, _<_}
 use native.Mathlib.Omega.{arith}
 use lib.ListN.{getD}
 use Rattle.characters.specs.Characters.{isWord}
-use Rattle.names.specs.Names.{Named, entries}
+use Rattle.characters.specs.Named.{Named}
+use Rattle.names.specs.Dictionaries.{entries}
 use Rattle.bit_parts.specs.declared.Reference.{Reference}
 use Rattle.bit_parts.specs.declared.Reference.the-variants as reference
 use Rattle.bit_parts.specs.References.{referenceAt}

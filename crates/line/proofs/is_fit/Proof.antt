@@ -4,7 +4,8 @@ use mathlib.Core.Bool.{_&&_}
 use Prim.Native.Nat.{ℕ}
 use lib.Dec.{eqb, leb, ltb}
 use lib.ListN.{length}
-use Rattle.fields.specs.Fields.{lineFeed, until}
+use Rattle.characters.specs.Ascii.{lineFeed}
+use Rattle.fields.specs.Fields.{until}
 use Rattle.characters.specs.declared.Class.the-variants.{Printable}
 use Rattle.fields.proofs.Lines.{before-length}
 use Rattle.characters.proofs.Runs.{from-start}

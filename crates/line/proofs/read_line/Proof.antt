@@ -5,7 +5,7 @@ use Prim.Native.Nat.{ℕ}
 use native.Mathlib.Omega.{arith}
 use lib.ListN.{length}
 use Rattle.characters.specs.Characters.{same}
-use Rattle.fields.specs.Fields.{lineFeed}
+use Rattle.characters.specs.Ascii.{lineFeed}
 use Rattle.declaration.specs.Lines.{regWord, atWord}
 use Rattle.declaration.proofs.Fields.{after-le}
 use Rattle.row.proofs.RowLines.{takes-plain}

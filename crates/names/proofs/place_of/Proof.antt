@@ -1,7 +1,8 @@
 -- `names::place_of`: entry by entry.
 use mathlib.Core.Path.{_≡_, sym, _∙_}
 use Prim.Native.Nat.{_+_, _-_}
-use Rattle.names.specs.Names.{find, entries, entriesFrom}
+use Rattle.characters.specs.Named.{find}
+use Rattle.names.specs.Dictionaries.{entries, entriesFrom}
 use Rattle.names.proofs.Entries.{start, here, later, nowhere}
 use borrow.Author.Needs.{needs}
 use Rattle.names.proofs.place_of.Statement.{statement}

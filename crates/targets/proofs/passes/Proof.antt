@@ -6,7 +6,8 @@ use Prim.Native.Nat.{ℕ, _+_, _≤_}
 use native.Mathlib.Omega.{arith}
 use lib.ListN.{length}
 use Rattle.fields.proofs.Lines.{after-shorter}
-use Rattle.fields.specs.Fields.{lineFeed, lines}
+use Rattle.characters.specs.Ascii.{lineFeed}
+use Rattle.fields.specs.Fields.{lines}
 use Rattle.targets.specs.Targets.{isAt, isRow, further, passes}
 use Rattle.targets.proofs.Counting.{from-none, arrived, past-row, past-other, nowhere}
 use borrow.Author.Needs.{needs}

@@ -3,7 +3,7 @@ use mathlib.Core.Path.{refl}
 use native.Mathlib.Omega.{arith}
 use lib.ListN.{length}
 use Rattle.fields.proofs.Lines.{after-shorter}
-use Rattle.fields.specs.Fields.{lineFeed}
+use Rattle.characters.specs.Ascii.{lineFeed}
 use Rattle.description.proofs.Texts.{Turning, turn-start, turn-refused, turn-next, turn-last, tells-refused}
 use borrow.Author.Needs.{needs}
 use Rattle.description.proofs.reader.read_lines.Statement.{statement}

@@ -7,7 +7,8 @@ use lib.ListN.{length}
 use borrow.Author.Needs.{needs}
 use borrow.Author.Tests.{le-leb, lt-leb, lt-ltb, le-ltb, not-true, not-false}
 use Rattle.characters.specs.Characters.{same}
-use Rattle.fields.specs.Fields.{lineFeed, until}
+use Rattle.characters.specs.Ascii.{lineFeed}
+use Rattle.fields.specs.Fields.{until}
 use Rattle.fields.proofs.Lines.{before-length}
 use Rattle.description.specs.Description.{header}
 use Rattle.description.proofs.Texts.{tells-refused, tells-as, too-long, no-header, header-alone, after-header}

@@ -4,7 +4,7 @@ use mathlib.Core.Path.{_≡_, refl, sym, ap, _∙_}
 use Prim.Native.Nat.{ℕ, _+_, _-_, _<_}
 use native.Mathlib.Omega.{arith}
 use borrow.Author.Needs.{needs}
-use Rattle.names.specs.Names.{entries}
+use Rattle.names.specs.Dictionaries.{entries}
 use Rattle.operators.specs.declared.Entry.{Entry}
 use Rattle.operators.specs.Operators.{strongest, entryIn}
 use Rattle.tokens.specs.Tokens.{skip}

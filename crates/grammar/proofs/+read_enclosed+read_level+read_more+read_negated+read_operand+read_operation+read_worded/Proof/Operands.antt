@@ -5,7 +5,7 @@ use Prim.Native.Nat.{ℕ, _+_}
 use native.Mathlib.Omega.{arith}
 use borrow.Author.Needs.{needs}
 use lib.ListN.{getD}
-use Rattle.names.specs.Names.{entries}
+use Rattle.names.specs.Dictionaries.{entries}
 use Rattle.bit_parts.specs.References.{referenceAt}
 use Rattle.tokens.specs.Tokens.{roundOpen, roundClose, squareOpen, squareClose}
 use Rattle.grammar.specs.Grammar.{worded, negated, enclosed}

@@ -5,7 +5,7 @@ use mathlib.Core.List.{List}
 use Prim.Native.Nat.{ℕ}
 use native.Mathlib.Omega.{arith}
 use Rattle.laws.proofs.Tests.{not-so}
-use Rattle.names.specs.Names.{entries}
+use Rattle.names.specs.Dictionaries.{entries}
 use Rattle.expression.specs.Expression.{expression, destination}
 use Rattle.grammar.proofs.Calls.{faulty}
 use Rattle.declaration.proofs.Fields.{field-2-le, fields-2-3-le}

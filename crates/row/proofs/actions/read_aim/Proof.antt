@@ -1,6 +1,6 @@
 -- `actions::read_aim`: the cells of the place that was read.
 use mathlib.Core.Path.{sym, subst}
-use Rattle.names.specs.Names.{entries}
+use Rattle.names.specs.Dictionaries.{entries}
 use Rattle.expression.specs.Expression.{destination}
 use Rattle.row.specs.declared.cells.Aim.{Aim}
 use Rattle.row.specs.Stored.{Aimed}

@@ -3,7 +3,7 @@ use mathlib.Core.Path.{refl, sym, ap, _∙_}
 use native.Mathlib.Omega.{arith}
 use Rattle.laws.proofs.Tests.{not-so}
 use Rattle.fields.specs.Fields.{field}
-use Rattle.names.specs.Names.{entries}
+use Rattle.names.specs.Dictionaries.{entries}
 use Rattle.code.specs.declared.Part.the-variants.{Found}
 use Rattle.expression.specs.Expression.{expression, destination}
 use Rattle.grammar.proofs.Calls.{faulty, moved}

@@ -2,7 +2,7 @@
 use borrow.Author.Needs.{needs}
 use native.Mathlib.Omega.{arith}
 use Prim.Native.Nat.{_+_, _≤_}
-use Rattle.page.specs.Text.{ascii}
+use Rattle.characters.specs.Ascii.{ascii}
 use Rattle.page.proofs.Writing.{written-none, written-then}
 use Rattle.run_lines.specs.Registers.{pageBytes}
 use Rattle.run_lines.proofs.RegisterLines.{register-end}

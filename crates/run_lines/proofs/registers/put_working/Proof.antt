@@ -4,7 +4,7 @@ use native.Mathlib.Omega.{arith}
 use mathlib.Core.Path.{_≡_}
 use Prim.Native.Nat.{_+_, _≤_}
 use lib.ListN.{length}
-use Rattle.page.specs.Text.{ascii}
+use Rattle.characters.specs.Ascii.{ascii}
 use Rattle.page.proofs.Writing.{written-none, written-then}
 use Rattle.run_lines.specs.Registers.{pageBytes}
 use Rattle.run_lines.proofs.RegisterLines.{register-end, working-values}

@@ -7,7 +7,8 @@ use lib.Dec.{eqb}
 use lib.ListN.{length, getD}
 use borrow.Author.Tests.{eqb-true}
 use Rattle.fields.proofs.Lines.{after-shorter}
-use Rattle.fields.specs.Fields.{lineFeed, lines}
+use Rattle.characters.specs.Ascii.{lineFeed}
+use Rattle.fields.specs.Fields.{lines}
 use Rattle.laws.proofs.Joined.{and-left, and-right}
 use Rattle.targets.specs.Targets.{isRow}
 use Rattle.run_lines.specs.Rows.{rowTexts}

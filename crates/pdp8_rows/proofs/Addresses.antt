@@ -18,7 +18,7 @@ use Rattle.machine.proofs.Keeps.{stored-good}
 use Rattle.reference.specs.Address.{address, firstAddress, indexed, effective, afterIndexing}
 use Rattle.reference.specs.Reference.{operation, reference}
 use Rattle.reference.proofs.Addresses.{firstAddress-lt}
-use Rattle.pdp8_rows.specs.Shipped.{rows·address}
+use Rattle.pdp8_rows.proofs.Tree.{rows·address}
 use Rattle.pdp8_rows.proofs.Held.{Work, Fit, held, addressed, addressed-fit}
 use Rattle.pdp8_rows.proofs.Ends.{Ends, seen, acts, moved, unless}
 use Rattle.pdp8_rows.proofs.Bits.{of-bit, negated, test, word-kept, index-bits}

@@ -13,7 +13,10 @@ use Rattle.machine.specs.Interrupt.{interruptTest}
 use Rattle.machine.proofs.Keeps.{pc-good}
 use Rattle.pdp8.specs.Step.{execute, step}
 use Rattle.cycles.specs.Cycle.{cycle}
-use Rattle.pdp8_rows.specs.Shipped.{rows·fetch, rows·decode, shipped}
+use Rattle.declaration.specs.Rows.{Description}
+use Rattle.pdp8_rows.specs.Text.{shipped}
+use Rattle.pdp8_rows.proofs.Tree.{rows·fetch, rows·decode}
+use Rattle.pdp8_rows.proofs.Accepted.{shipped-is}
 use Rattle.pdp8_rows.proofs.Held.{Work, Fit, held, fetched, fetched-fit}
 use Rattle.pdp8_rows.proofs.Plain.{cycle-plain}
 use Rattle.pdp8_rows.proofs.Ends.{Ends, acts, branches}
@@ -42,4 +45,8 @@ module _ {o : State} {w : Work} (g : Good o) (f : Fit w) where
 
   -- the machine's registers and memory as a step leaves them, and working registers that fit
   pub cycles-step : (left : Work) × Fit left × (cycle (shipped .rows) (held o w) .state ≡ held (step o) left)
-  cycles-step = (ends-fetch .left, ends-fetch .fits, cycle-plain 1 (shipped .rows) 0 (held o w) ∙ ends-fetch .same)
+  cycles-step = (
+    ends-fetch .left,
+    ends-fetch .fits,
+    ap (λ (d : Description). cycle (d .rows) (held o w) .state) shipped-is ∙ cycle-plain 1 rows·fetch 0 (held o w) ∙ ends-fetch .same,
+  )

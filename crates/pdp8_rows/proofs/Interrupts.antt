@@ -9,7 +9,7 @@ use Rattle.word.specs.Word.{wordBits, complement}
 use Rattle.word.proofs.Choice.{on-bit}
 use Rattle.machine.specs.State.{State, Good, stored, withPc, withEnable}
 use Rattle.machine.specs.Interrupt.{interrupted, interruptTest, inputOutput, ion, iof}
-use Rattle.pdp8_rows.specs.Shipped.{rows·interrupt, rows·iot}
+use Rattle.pdp8_rows.proofs.Tree.{rows·interrupt, rows·iot}
 use Rattle.pdp8_rows.proofs.Held.{Work, Fit, held}
 use Rattle.pdp8_rows.proofs.Ends.{Ends, past, acts, idles, jumps, stays}
 use Rattle.pdp8_rows.proofs.Bits.{of-bit, negated, test, word-kept}

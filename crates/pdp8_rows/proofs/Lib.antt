@@ -1,3 +1,4 @@
+pub mod Tree
 pub mod Accepted
 pub mod Held
 mod Plain

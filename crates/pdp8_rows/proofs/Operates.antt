@@ -21,7 +21,7 @@ use Rattle.value.specs.Value as rows
 use Rattle.operate.specs.Operate as machine
 use Rattle.operate.specs.Operate.{cleared, linkCleared, complemented, linkComplemented, increased, changed, group1, group3, operate}
 use Rattle.operate.proofs.Changes.{cleared-lt, linkCleared-lt, complemented-lt, changed-lt}
-use Rattle.pdp8_rows.specs.Shipped.{rows·opr, rows·twice, rows·group2, rows·group3, rows·interrupt}
+use Rattle.pdp8_rows.proofs.Tree.{rows·opr, rows·twice, rows·group2, rows·group3, rows·interrupt}
 use Rattle.pdp8_rows.proofs.Held.{Work, Fit, held}
 use Rattle.pdp8_rows.proofs.Ends.{Ends, moved, jumps, decides, branches}
 use Rattle.pdp8_rows.proofs.Bits.{lac-kept, ac-stored, ac-cleared, link-cleared, link-complemented}

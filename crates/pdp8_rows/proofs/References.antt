@@ -17,7 +17,7 @@ use Rattle.machine.specs.Instruction.{op}
 use Rattle.machine.specs.Interrupt.{interruptTest}
 use Rattle.machine.proofs.Lac.{ac-lt}
 use Rattle.reference.specs.Reference.{andTo, addTo, incrementAndSkip, deposit, callAt, jumpTo, operation}
-use Rattle.pdp8_rows.specs.Shipped.{rows·execute, rows·jmp, rows·and, rows·tad, rows·isz, rows·dca, rows·jms}
+use Rattle.pdp8_rows.proofs.Tree.{rows·execute, rows·jmp, rows·and, rows·tad, rows·isz, rows·dca, rows·jms}
 use Rattle.pdp8_rows.proofs.Held.{Work, Fit, held}
 use Rattle.pdp8_rows.proofs.Ends.{Ends, seen, acts, moved, jumps, branches}
 use Rattle.pdp8_rows.proofs.Bits.{word-kept, ac-stored, ac-cleared}

@@ -12,19 +12,21 @@ use Rattle.pdp8.specs.Run as steps
 use Rattle.pdp8.proofs.Keeps.{step-good}
 use Rattle.characters.specs.Characters.{same}
 use Rattle.characters.specs.Named.{find}
+use Rattle.declaration.specs.Rows.{Description}
 use Rattle.description.specs.Description.{runName}
 use Rattle.value.specs.Value as rows
 use Rattle.cycles.specs.Cycle.{Cycle, cycle}
 use Rattle.cycles.specs.Run as cycles
 use Rattle.cycles.specs.Run.{running}
-use Rattle.pdp8_rows.specs.Shipped.{shipped, shippedRegisters}
+use Rattle.pdp8_rows.specs.Text.{shipped}
+use Rattle.pdp8_rows.proofs.Accepted.{shipped-is}
 use Rattle.pdp8_rows.proofs.Held.{Work, Fit, held}
 use Rattle.pdp8_rows.proofs.Cycles.{cycles-step}
 
 -- RUN is the machine's
-run-place : find runName shippedRegisters ≡ 2
+run-place : find runName (shipped .registers) ≡ 2
 unfolding find same
-run-place = refl
+run-place = ap (λ (d : Description). find runName (d .registers)) shipped-is
 
 pub running-held : (c : rows.State) (o : State) (w : Work) → c ≡ held o w → running shipped c ≡ o .run
 running-held c o w e = ap (running shipped) e ∙ ap (λ (k : ℕ). getD (held o w .registers) k 0) run-place

@@ -20,7 +20,7 @@ use Rattle.declaration.specs.Rows.{Row, does}
 use Rattle.value.specs.Value as rows
 use Rattle.value.specs.Value.{value}
 use Rattle.operate.specs.Operate.{cleared, sign, skipsPlain, skipsReversed, skips, switched, group2}
-use Rattle.pdp8_rows.specs.Shipped.{rows·group2, rows·inverted, rows·decided}
+use Rattle.pdp8_rows.proofs.Tree.{rows·group2, rows·inverted, rows·decided}
 use Rattle.pdp8_rows.proofs.Held.{Work, Fit, held, skipping, skipping-fit}
 use Rattle.pdp8_rows.proofs.Ends.{Ends, seen, acts, moved, jumps, decides}
 use Rattle.pdp8_rows.proofs.Bits.{of-test, of-bit, of-zero, negated, both, test, set-where, ac-stored, ac-cleared}

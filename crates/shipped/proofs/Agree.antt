@@ -18,10 +18,9 @@ use Rattle.value.specs.Value as rows
 use Rattle.cycles.specs.Run as cycles
 use Rattle.evaluator.specs.Evaluate as evaluator
 use Rattle.evaluator.specs.Evaluate.{evaluate, evaluateOf, check}
-use Rattle.pdp8_rows.specs.Text.{shippedText}
-use Rattle.pdp8_rows.specs.Shipped.{shipped}
+use Rattle.pdp8_rows.specs.Text.{shippedText, shipped}
 use Rattle.shipped.specs.Claim.{machinePart, Start, Same, cyclesOf, Claim}
-use Rattle.pdp8_rows.proofs.Accepted.{shipped-accepted}
+use Rattle.pdp8_rows.proofs.Accepted.{shipped-read}
 use Rattle.pdp8_rows.proofs.Runs.{Alike, runs-alike}
 use Rattle.shipped.proofs.Starts.{workOf, start-held, start-good, work-fits, emulator-passes, evaluator-passes}
 
@@ -49,7 +48,7 @@ module _ {m : Machine} {registers memory : List ℕ} {budget : ℕ} {list : List
   evaluated : evaluate shippedText registers memory budget list ≡ evaluator.finished (cyclesOf registers memory budget) list
   unfolding evaluate evaluateOf
   evaluated =
-      ap (λ (a : text.Answer). evaluateOf a registers memory budget list) shipped-accepted
+      ap (λ (a : text.Answer). evaluateOf a registers memory budget list) shipped-read
       ∙ passed (check shipped registers memory budget list) (evaluator.finished (cyclesOf registers memory budget) list)
       (λ why. evaluator.refused (numberOf why) (placeOf why) registers memory list)
       (evaluator-passes s)
@@ -65,7 +64,7 @@ pub runs-agree : (m : Machine) (registers memory : List ℕ) (budget : ℕ) (lis
     → Claim m registers memory budget list
 runs-agree m registers memory budget list s =
     record {
-      read = shipped-accepted;
+      read = shipped-read;
       emulated = emulated s;
       evaluated = evaluated s;
       same =

@@ -20,8 +20,7 @@ use Rattle.cycles.specs.Run as cycles
 use Rattle.cycles.specs.Run.{running}
 use Rattle.evaluator.specs.Evaluate as evaluator
 use Rattle.evaluator.specs.Evaluate.{evaluate}
-use Rattle.pdp8_rows.specs.Text.{shippedText}
-use Rattle.pdp8_rows.specs.Shipped.{shipped}
+use Rattle.pdp8_rows.specs.Text.{shippedText, shipped}
 use Rattle.shipped.specs.Claim.{Start, Claim}
 use Rattle.pdp8_rows.proofs.Runs.{running-held}
 use Rattle.shipped.proofs.Starts.{workOf, start-held}

@@ -17,8 +17,7 @@ use Rattle.description.specs.Description.{accepted, readText}
 use Rattle.cycles.specs.Run as cycles
 use Rattle.evaluator.specs.Evaluate as evaluator
 use Rattle.evaluator.specs.Evaluate.{evaluate, widthsOf}
-use Rattle.pdp8_rows.specs.Text.{shippedText}
-use Rattle.pdp8_rows.specs.Shipped.{shipped}
+use Rattle.pdp8_rows.specs.Text.{shippedText, shipped}
 
 -- the machine registers among the evaluator's places: "in this order, which begins the shipped description too"
 abbrev pub machinePart : List ℕ → List ℕ
@@ -48,7 +47,7 @@ cyclesOf registers memory budget = cycles.run shipped budget (record { registers
 
 -- what holds of the two runs from a start
 pub record Claim (m : Machine) (registers memory : List ℕ) (budget : ℕ) (list : List ℕ) : Type 0 where
-  -- the reader accepts the shipped text, as these rows
+  -- the reader accepts the shipped text
   pub read : readText shippedText ≡ accepted shipped
   -- neither refuses: the answers are those of the run by the machine's steps and of the run by the rows' cycles
   pub emulated : emulate m memory budget ≡ emulator.finished (steps.run budget (start m memory))

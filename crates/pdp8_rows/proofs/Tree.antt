@@ -1,20 +1,15 @@
--- The shipped description as the reader gives it: its registers, and its rows, of which each label names those below it.
+-- The tree of the shipped description: its registers, and its rows, of which each label names those below it. Nobody has to believe it: `shipped-accepted` computes that the reader
+-- reads the shipped text as this.
 -- Assumes nothing.
 use mathlib.Core.List.{List, [], _∷_}
-use Prim.Native.Nat.{ℕ}
 use Rattle.characters.specs.Ascii.{ascii}
 use Rattle.characters.specs.Named.{Named}
 use Rattle.operators.specs.declared.Operator.the-variants.{Join, RotateLeft, RotateRight, Add, Equal, Unequal, And, Or}
 use Rattle.code.specs.Tree.{Expr, register, bitPart, constant, memory, complemented, rotated, binary, toRegister, toPart, toMemory}
 use Rattle.declaration.specs.Rows.{Row, does, goes, Description}
 
--- "the shipped description (at most 80 rows)"
-abbrev pub mostShippedRows : ℕ
-mostShippedRows = 80
-
--- LAC, PC, RUN, INTERRUPT.ENABLE, INTERRUPT.REQUEST, SWITCHES, i, last.pc, eadd, skip
-abbrev pub shippedRegisters : List Named
-shippedRegisters =
+abbrev registers : List Named
+registers =
     record { name = ascii "LAC"; number = 13 }
     ∷ record { name = ascii "PC"; number = 12 }
     ∷ record { name = ascii "RUN"; number = 1 }
@@ -201,5 +196,5 @@ rows·fetch =
     ∷ does one (toRegister 1 12) (binary Add pc one)
     ∷ rows·decode
 
-abbrev pub shipped : Description
-shipped = record { registers = shippedRegisters; rows = rows·fetch }
+abbrev pub tree : Description
+tree = record { registers = registers; rows = rows·fetch }

@@ -22,7 +22,7 @@ use Rattle.pdp8_rows.specs.Text.{shippedText, shipped}
 use Rattle.shipped.specs.Claim.{machinePart, Start, Same, cyclesOf, Claim}
 use Rattle.pdp8_rows.proofs.Accepted.{shipped-read}
 use Rattle.pdp8_rows.proofs.Runs.{Alike, runs-alike}
-use Rattle.shipped.proofs.Starts.{workOf, start-held, start-good, work-fits, emulator-passes, evaluator-passes}
+use Rattle.shipped.proofs.Starts.{workOf, start-in-places, start-good, work-fits, emulator-passes, evaluator-passes}
 
 -- an answer by a check that found nothing
 passed : {A : Type 0} (v : Verdict) (ran : A) (refused : Refusal → A) → v ≡ Fit → elim v [ Fit ↦ ran | Unfit why ↦ refused why ] ≡ ran
@@ -57,7 +57,7 @@ module _ {m : Machine} {registers memory : List ℕ} {budget : ℕ} {list : List
   unfolding steps.run cycles.run
   ends-alike =
       runs-alike budget 0 (start m memory) (workOf registers) (record { state = record { registers = registers; memory = memory }; acted = [] })
-      (start-good s) (work-fits s) (start-held s)
+      (start-good s) (work-fits s) (start-in-places s)
 
 -- every acceptable memory, all fitting machine and working registers, every budget from 0 to 1,000,000 and every row list of 128 places or more
 pub runs-agree : (m : Machine) (registers memory : List ℕ) (budget : ℕ) (list : List ℕ) → Start m registers memory budget list

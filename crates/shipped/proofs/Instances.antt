@@ -22,8 +22,8 @@ use Rattle.evaluator.specs.Evaluate as evaluator
 use Rattle.evaluator.specs.Evaluate.{evaluate}
 use Rattle.pdp8_rows.specs.Text.{shippedText, shipped}
 use Rattle.shipped.specs.Claim.{Start, Claim}
-use Rattle.pdp8_rows.proofs.Runs.{running-held}
-use Rattle.shipped.proofs.Starts.{workOf, start-held}
+use Rattle.pdp8_rows.proofs.Runs.{running-in-places}
+use Rattle.shipped.proofs.Starts.{workOf, start-in-places}
 use Rattle.shipped.proofs.Agree.{runs-agree}
 
 -- a run without cycles: all is as it came
@@ -65,7 +65,7 @@ module _ (m : Machine) (registers memory list : List ℕ) where
         claim .evaluated
             ∙ ap (λ (r : cycles.Run). evaluator.finished r list)
             (cycles-halted budget (record { registers = registers; memory = memory })
-            (running-held (record { registers = registers; memory = memory }) (start m memory) (workOf registers) (start-held s) ∙ e)),
+            (running-in-places (record { registers = registers; memory = memory }) (start m memory) (workOf registers) (start-in-places s) ∙ e)),
       )
 
   -- INTERRUPT.ENABLE and INTERRUPT.REQUEST both 1 at entry

@@ -24,7 +24,7 @@ use Rattle.pdp8_rows.specs.Text.{shipped}
 use Rattle.shipped.specs.Claim.{machinePart, Start}
 use Rattle.pdp8_rows.proofs.Tree.{tree}
 use Rattle.pdp8_rows.proofs.Accepted.{shipped-is}
-use Rattle.pdp8_rows.proofs.Held.{Work, Fit, held}
+use Rattle.pdp8_rows.proofs.Places.{Work, Fit, inPlaces}
 
 -- "Machine registers, in this order, which begins the shipped description too"
 pub shipped-begins : machinePart (widthsOf shipped) ≡ widths
@@ -49,8 +49,8 @@ module _ {m : Machine} {registers memory : List ℕ} {budget : ℕ} {list : List
       sym (take-append-drop 6 registers)
       ∙ ap₂ _++_ (s .machine) (spelled-is 6 4 registers (subst (λ (n : ℕ). 10 ≤ n) (sym (s .places)) (lit≤ tt)))
 
-  pub start-held : _≡_ {A = rows.State} (record { registers = registers; memory = memory }) (held (start m memory) (workOf registers))
-  start-held = ap (λ (l : List ℕ). record { registers = l; memory = memory }) places-are
+  pub start-in-places : _≡_ {A = rows.State} (record { registers = registers; memory = memory }) (inPlaces (start m memory) (workOf registers))
+  start-in-places = ap (λ (l : List ℕ). record { registers = l; memory = memory }) places-are
 
   fitting : Fitting (widthsOf tree) (values m ++ spelled 6 4 registers)
   fitting = subst (λ (d : Description). Fitting (widthsOf d) (values m ++ spelled 6 4 registers)) shipped-is (subst (Fitting (widthsOf shipped)) places-are (s .fitting))

@@ -4,6 +4,7 @@ use mathlib.Core.Path.{_≡_, refl, ap, _∙_}
 use mathlib.Core.Bool.{Bool, true, false}
 use mathlib.Core.List.{List}
 use Prim.Native.Nat.{ℕ, _/_, _%_, _^_, _<_}
+use native.Mathlib.Nat.{mod-eq-of-lt}
 use native.Mathlib.Omega.{arith}
 use lib.Dec.{eqb}
 use lib.ListN.{getD, set}
@@ -21,7 +22,7 @@ use Rattle.reference.proofs.Addresses.{firstAddress-lt}
 use Rattle.pdp8_rows.proofs.Tree.{rows·address}
 use Rattle.pdp8_rows.proofs.Places.{Work, Fit, inPlaces, addressed, addressed-fit}
 use Rattle.pdp8_rows.proofs.Ends.{Ends, seen, acts, moved, unless}
-use Rattle.pdp8_rows.proofs.Bits.{of-bit, negated, test, word-kept, index-bits}
+use Rattle.pdp8_rows.proofs.Bits.{of-bit, negated, test, index-bits}
 use Rattle.pdp8_rows.proofs.References.{ends-execute}
 
 -- the address of the page that is chosen
@@ -67,8 +68,8 @@ module _ {o : State} {w : Work} (g : Good o) (f : Fit w) where
       (moved (λ (m : List ℕ). inPlaces (withMemory m o) (addressed first w)) (o .memory) (set (o .memory) first (next (getD (o .memory) first 0)))
       (eqb (first / 8) 1)
       (on-bit (eqb (bits wordBits 0 8 first) 1) ∙ ap (λ (x : ℕ). eqb x 1) (index-bits first-lt))
-      (ap (λ (a : ℕ). inPlaces (withMemory (set (o .memory) a (next (getD (o .memory) a 0))) o) (addressed first w)) (word-kept first-lt))
+      (ap (λ (a : ℕ). inPlaces (withMemory (set (o .memory) a (next (getD (o .memory) a 0))) o) (addressed first w)) (mod-eq-of-lt first-lt))
       (acts (inPlaces (withMemory after o) (addressed (getD after first 0) w)) refl
       (ap (λ (x : ℕ). inPlaces (withMemory after o) (addressed x w))
-      (ap (λ (a : ℕ). getD after a 0 % 2 ^ wordBits) (word-kept first-lt) ∙ word-kept (after-good .memory .words first)))
+      (ap (λ (a : ℕ). getD after a 0 % 2 ^ wordBits) (mod-eq-of-lt first-lt) ∙ mod-eq-of-lt (after-good .memory .words first)))
       (ends-execute after-good (addressed-fit (after-good .memory .words first) f)))))))

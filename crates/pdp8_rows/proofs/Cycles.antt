@@ -2,6 +2,7 @@
 -- Assumes nothing.
 use mathlib.Core.Path.{_≡_, refl, ap, _∙_}
 use Prim.Native.Nat.{ℕ, _%_, _^_}
+use native.Mathlib.Nat.{mod-eq-of-lt}
 use lib.Dec.{eqb}
 use lib.ListN.{getD}
 use Rattle.word.specs.Word.{wordBits, next}
@@ -20,7 +21,6 @@ use Rattle.pdp8_rows.proofs.Accepted.{shipped-is}
 use Rattle.pdp8_rows.proofs.Places.{Work, Fit, inPlaces, fetched, fetched-fit}
 use Rattle.pdp8_rows.proofs.Plain.{cycle-plain}
 use Rattle.pdp8_rows.proofs.Ends.{Ends, acts, branches}
-use Rattle.pdp8_rows.proofs.Bits.{word-kept}
 use Rattle.pdp8_rows.proofs.Interrupts.{ends-iot}
 use Rattle.pdp8_rows.proofs.Addresses.{ends-address}
 use Rattle.pdp8_rows.proofs.Operates.{ends-opr}
@@ -38,8 +38,8 @@ module _ {o : State} {w : Work} (g : Good o) (f : Fit w) where
   ends-fetch =
       acts (inPlaces o (fetched (word (o .pc) o) (w .last) w)) refl
       (ap (λ (x : ℕ). inPlaces o (fetched x (w .last) w))
-      (ap (λ (a : ℕ). getD (o .memory) a 0 % 2 ^ wordBits) (word-kept (g .pc)) ∙ word-kept (g .memory .words (o .pc))))
-      (acts (inPlaces o (fetched (word (o .pc) o) (o .pc) w)) refl (ap (λ (x : ℕ). inPlaces o (fetched (word (o .pc) o) x w)) (word-kept (g .pc)))
+      (ap (λ (a : ℕ). getD (o .memory) a 0 % 2 ^ wordBits) (mod-eq-of-lt (g .pc)) ∙ mod-eq-of-lt (g .memory .words (o .pc))))
+      (acts (inPlaces o (fetched (word (o .pc) o) (o .pc) w)) refl (ap (λ (x : ℕ). inPlaces o (fetched (word (o .pc) o) x w)) (mod-eq-of-lt (g .pc)))
       (acts (inPlaces (withPc (next (o .pc)) o) (fetched (word (o .pc) o) (o .pc) w)) refl refl
       (ends-decode (pc-good (next-lt (o .pc)) g) (fetched-fit (g .memory .words (o .pc)) (g .pc) f))))
 

@@ -3,6 +3,7 @@
 use mathlib.Core.Path.{_≡_, refl, ap, _∙_}
 use mathlib.Core.Bool.{Bool, true, false, not, _&&_}
 use Prim.Native.Nat.{ℕ, _^_, _<_}
+use native.Mathlib.Nat.{mod-eq-of-lt}
 use lib.Dec.{eqb, lit<}
 use Rattle.word.specs.Choice.{on, bit}
 use Rattle.word.specs.Word.{wordBits, complement}
@@ -12,7 +13,7 @@ use Rattle.machine.specs.Interrupt.{interrupted, interruptTest, inputOutput, io
 use Rattle.pdp8_rows.proofs.Tree.{rows·interrupt, rows·iot}
 use Rattle.pdp8_rows.proofs.Places.{Work, Fit, inPlaces}
 use Rattle.pdp8_rows.proofs.Ends.{Ends, past, acts, idles, jumps, stays}
-use Rattle.pdp8_rows.proofs.Bits.{of-bit, negated, test, word-kept}
+use Rattle.pdp8_rows.proofs.Bits.{of-bit, negated, test}
 
 module _ {o : State} {w : Work} (f : Fit w) where
   -- "M[0] = PC, PC = 1, INTERRUPT.ENABLE = 0"
@@ -22,7 +23,7 @@ module _ {o : State} {w : Work} (f : Fit w) where
   interrupts h true false p q = stays p (jumps q (past f))
   interrupts h true true p q =
       stays p (stays q
-      (acts (inPlaces (stored 0 (o .pc) o) w) refl (ap (λ (x : ℕ). inPlaces (stored 0 x o) w) (word-kept h))
+      (acts (inPlaces (stored 0 (o .pc) o) w) refl (ap (λ (x : ℕ). inPlaces (stored 0 x o) w) (mod-eq-of-lt h))
       (acts (inPlaces (withPc 1 (stored 0 (o .pc) o)) w) refl refl
       (acts (inPlaces (interrupted o) w) refl refl (past f)))))
 

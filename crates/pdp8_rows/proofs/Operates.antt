@@ -4,6 +4,7 @@ use mathlib.Core.Path.{_≡_, refl, sym, ap, subst}
 use mathlib.Core.Bool.{Bool}
 use mathlib.Core.List.{List, _∷_}
 use Prim.Native.Nat.{ℕ, _+_, _%_, _^_, _<_}
+use native.Mathlib.Nat.{mod-eq-of-lt}
 use lib.Dec.{lit<}
 use lib.ListN.{drop}
 use Rattle.word.specs.Choice.{on, pick, choose}
@@ -24,7 +25,7 @@ use Rattle.operate.proofs.Changes.{cleared-lt, linkCleared-lt, complemented-lt,
 use Rattle.pdp8_rows.proofs.Tree.{rows·opr, rows·twice, rows·group2, rows·group3, rows·interrupt}
 use Rattle.pdp8_rows.proofs.Places.{Work, Fit, inPlaces}
 use Rattle.pdp8_rows.proofs.Ends.{Ends, moved, jumps, decides, branches}
-use Rattle.pdp8_rows.proofs.Bits.{lac-kept, ac-stored, ac-cleared, link-cleared, link-complemented}
+use Rattle.pdp8_rows.proofs.Bits.{ac-stored, ac-cleared, link-cleared, link-complemented}
 use Rattle.pdp8_rows.proofs.Interrupts.{ends-interrupt}
 use Rattle.pdp8_rows.proofs.Skips.{ends-group2}
 
@@ -79,8 +80,8 @@ module _ {o : State} {w : Work} (g : Good o) (f : Fit w) where
       (lac-is x)
       (interruptTest (withLac (rotatedBy n x) o))
   rotates n m rs x h land =
-      moved lac-is x (rotatedLeft lacBits n x) (on (flag 9 i)) refl (ap lac-is (lac-kept (rotatedLeft-lt lacBits (lit< tt) n h)))
-      (moved lac-is (leftBy n x) (rotatedRight lacBits n (leftBy n x)) (on (flag 8 i)) refl (ap lac-is (lac-kept (rotatedRight-lt lacBits (lit< tt) n (leftBy-lt n h))))
+      moved lac-is x (rotatedLeft lacBits n x) (on (flag 9 i)) refl (ap lac-is (mod-eq-of-lt (rotatedLeft-lt lacBits (lit< tt) n h)))
+      (moved lac-is (leftBy n x) (rotatedRight lacBits n (leftBy n x)) (on (flag 8 i)) refl (ap lac-is (mod-eq-of-lt (rotatedRight-lt lacBits (lit< tt) n (leftBy-lt n h))))
       (jumps refl (subst (λ (l : List Row). Ends l (lac-is (rotatedBy n x)) (interruptTest (withLac (rotatedBy n x) o))) (sym land) (ends-lac (rotatedBy n x)))))
 
   ends-group1 : Ends (drop 1 rows·opr) (inPlaces o w) (interruptTest (group1 i o))

@@ -3,6 +3,7 @@
 use mathlib.Core.Path.{_≡_, refl, sym, ap, ap₂, _∙_, subst}
 use mathlib.Core.Bool.{Bool, true, false, not}
 use Prim.Native.Nat.{ℕ, _+_, _%_, _^_, _<_}
+use native.Mathlib.Nat.{mod-eq-of-lt}
 use native.Mathlib.Omega.{arith}
 use lib.Bits.{bitAnd, and-le-l}
 use lib.Dec.{eqb}
@@ -20,7 +21,7 @@ use Rattle.reference.specs.Reference.{andTo, addTo, incrementAndSkip, deposit, 
 use Rattle.pdp8_rows.proofs.Tree.{rows·execute, rows·jmp, rows·and, rows·tad, rows·isz, rows·dca, rows·jms}
 use Rattle.pdp8_rows.proofs.Places.{Work, Fit, inPlaces}
 use Rattle.pdp8_rows.proofs.Ends.{Ends, seen, acts, moved, jumps, branches}
-use Rattle.pdp8_rows.proofs.Bits.{word-kept, ac-stored, ac-cleared}
+use Rattle.pdp8_rows.proofs.Bits.{ac-stored, ac-cleared}
 use Rattle.pdp8_rows.proofs.Interrupts.{ends-interrupt}
 
 -- a choice the other way round
@@ -31,7 +32,7 @@ pick-not false x y = refl
 module _ {o : State} {w : Work} (g : Good o) (f : Fit w) where
   -- "A memory address is taken modulo 4,096": eadd is one
   at-eadd : w .eadd % 2 ^ wordBits ≡ w .eadd
-  at-eadd = word-kept (f .eadd)
+  at-eadd = mod-eq-of-lt (f .eadd)
 
   ends-jmp : Ends rows·jmp (inPlaces o w) (interruptTest (jumpTo (w .eadd) o))
   ends-jmp =
@@ -54,13 +55,13 @@ module _ {o : State} {w : Work} (g : Good o) (f : Fit w) where
   ends-dca : Ends rows·dca (inPlaces o w) (interruptTest (deposit (w .eadd) o))
   ends-dca =
       acts (inPlaces (stored (w .eadd) (ac (o .lac)) o) w) refl
-      (ap₂ (λ (a x : ℕ). inPlaces (stored a x o) w) at-eadd (word-kept (ac-lt (o .lac))))
+      (ap₂ (λ (a x : ℕ). inPlaces (stored a x o) w) at-eadd (mod-eq-of-lt (ac-lt (o .lac))))
       (acts (inPlaces (deposit (w .eadd) o) w) refl (ap (λ (x : ℕ). inPlaces (withLac x (stored (w .eadd) (ac (o .lac)) o)) w) (ac-cleared (o .lac)))
       (jumps refl (ends-interrupt f (g .pc) (g .enable) (g .request))))
 
   ends-jms : Ends rows·jms (inPlaces o w) (interruptTest (callAt (w .eadd) o))
   ends-jms =
-      acts (inPlaces (stored (w .eadd) (o .pc) o) w) refl (ap₂ (λ (a x : ℕ). inPlaces (stored a x o) w) at-eadd (word-kept (g .pc)))
+      acts (inPlaces (stored (w .eadd) (o .pc) o) w) refl (ap₂ (λ (a x : ℕ). inPlaces (stored a x o) w) at-eadd (mod-eq-of-lt (g .pc)))
       (acts (inPlaces (callAt (w .eadd) o) w) refl refl
       (jumps refl (ends-interrupt f (next-lt (w .eadd)) (g .enable) (g .request))))
 

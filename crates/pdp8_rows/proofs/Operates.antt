@@ -16,12 +16,13 @@ use Rattle.machine.specs.State.{State, Good, lacBits, withLac, ac, withAc, with
 use Rattle.machine.specs.Instruction.{flag}
 use Rattle.machine.specs.Interrupt.{interruptTest}
 use Rattle.operators.specs.declared.Operator.the-variants.{RotateLeft, RotateRight}
-use Rattle.code.specs.Tree.{register, bitPart, constant, rotated, toRegister}
+use Rattle.code.specs.Tree.{rotated}
 use Rattle.declaration.specs.Rows.{Row, does, goes}
 use Rattle.value.specs.Value as rows
 use Rattle.operate.specs.Operate as machine
 use Rattle.operate.specs.Operate.{cleared, linkCleared, complemented, linkComplemented, increased, changed, group1, group3, operate}
 use Rattle.operate.proofs.Changes.{cleared-lt, linkCleared-lt, complemented-lt, changed-lt}
+use Rattle.pdp8_rows.proofs.Tree as tree
 use Rattle.pdp8_rows.proofs.Tree.{rows·opr, rows·twice, rows·group2, rows·group3, rows·interrupt}
 use Rattle.pdp8_rows.proofs.Places.{Work, Fit, inPlaces}
 use Rattle.pdp8_rows.proofs.Ends.{Ends, moved, jumps, decides, branches}
@@ -73,9 +74,9 @@ module _ {o : State} {w : Work} (g : Good o) (f : Fit w) where
   -- two rows rotate by n places, and the third goes to the interrupt test
   rotates : (n : ℕ) (m : ℕ) (rs : List Row) (x : ℕ) → x < 2 ^ lacBits → drop m rs ≡ rows·interrupt
       → Ends
-      (does (bitPart 6 12 9 9) (toRegister 0 13) (rotated RotateLeft (register 0 13) n)
-      ∷ does (bitPart 6 12 8 8) (toRegister 0 13) (rotated RotateRight (register 0 13) n)
-      ∷ goes (constant 2 1) m
+      (does (tree.iBit 9) tree.toLac (rotated RotateLeft tree.lac n)
+      ∷ does (tree.iBit 8) tree.toLac (rotated RotateRight tree.lac n)
+      ∷ goes tree.one m
       ∷ rs)
       (lac-is x)
       (interruptTest (withLac (rotatedBy n x) o))

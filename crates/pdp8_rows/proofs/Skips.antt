@@ -15,12 +15,12 @@ use Rattle.machine.specs.State.{State, Good, withLac, withPc, withRun, link, ac
 use Rattle.machine.specs.Instruction.{flag}
 use Rattle.machine.specs.Interrupt.{interruptTest}
 use Rattle.machine.proofs.Lac.{ac-lt}
-use Rattle.code.specs.Tree.{Expr, constant, toRegister}
+use Rattle.code.specs.Tree.{Expr}
 use Rattle.declaration.specs.Rows.{Row, does}
 use Rattle.value.specs.Value as rows
 use Rattle.value.specs.Value.{value}
 use Rattle.operate.specs.Operate.{cleared, sign, skipsPlain, skipsReversed, skips, switched, group2}
-use Rattle.pdp8_rows.proofs.Tree.{rows·group2, rows·inverted, rows·decided}
+use Rattle.pdp8_rows.proofs.Tree.{toSkip, one, rows·group2, rows·inverted, rows·decided}
 use Rattle.pdp8_rows.proofs.Places.{Work, Fit, inPlaces, skipping, skipping-fit}
 use Rattle.pdp8_rows.proofs.Ends.{Ends, seen, acts, moved, jumps, decides}
 use Rattle.pdp8_rows.proofs.Bits.{of-test, of-bit, of-zero, negated, both, test, set-where, ac-stored, ac-cleared}
@@ -61,7 +61,7 @@ module _ {o : State} {w : Work} (g : Good o) (f : Fit w) where
 
   -- a row that sets skip where its condition holds
   selects : {c : Expr} {rs : List Row} {p : State} (b t : Bool) → on (value (skip-is b) c) ≡ t → Ends rs (skip-is (b || t)) p
-      → Ends (does c (toRegister 9 1) (constant 2 1) ∷ rs) (skip-is b) p
+      → Ends (does c toSkip one ∷ rs) (skip-is b) p
   selects b t condition r =
       moved (λ (x : ℕ). inPlaces o (skipping x w)) (bit b) 1 t condition refl (seen (ap (λ (x : ℕ). inPlaces o (skipping x w)) (set-where b t)) r)
 

@@ -23,6 +23,7 @@ pub record Fit (w : Work) : Type 0 where
   pub skip : w .skip < 2
   pub rest : (k : ℕ) → getD (w .rest) k 0 < 2 ^ 0
 
+-- the machine's state and the working registers, in the places that the rows know them by
 abbrev pub inPlaces : State → Work → rows.State
 inPlaces o w =
     record {

@@ -23,7 +23,7 @@ use Rattle.pdp8_rows.specs.Text.{shippedText, shipped}
 abbrev pub machinePart : List ℕ → List ℕ
 machinePart registers = take (length widths) registers
 
--- a start that meets no refusal, whatever its memory, registers and budget
+-- a start of both runs that meets no refusal
 pub record Start (m : Machine) (registers memory : List ℕ) (budget : ℕ) (list : List ℕ) : Type 0 where
   -- "the evaluator's sixteen places": the machine's registers, then "A shipped description's registers that the emulator lacks", "its working registers"
   pub places : length registers ≡ mostRegisters

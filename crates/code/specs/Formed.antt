@@ -12,8 +12,8 @@ use Rattle.characters.specs.Named.{Named}
 use Rattle.operators.specs.declared.Operator.{Operator}
 use Rattle.operators.specs.Operators.{rowOf, entryIn, strongest, rotations}
 use Rattle.bit_parts.specs.References.{widthIn}
-use Rattle.code.specs.Tree.{Expr, register, bitPart, constant, memory, complemented, rotated, binary, width, pieces, mostPieces, Destination, toRegister, toPart, toMemory, nowhere}
-use Rattle.code.specs.Readings.{Reading, read, outside, largestCount}
+use Rattle.code.specs.Tree.{Expr, register, bitPart, constant, memory, complemented, rotated, binary, width, pieces, largestCount, mostPieces, Destination, toRegister, toPart, toMemory, nowhere}
+use Rattle.code.specs.Readings.{Reading, read, outside}
 
 -- "width (1 to 16 ..)", of every register
 abbrev pub Registers : List Named → Type 0

@@ -42,6 +42,10 @@ pieces (complemented e) = pieces e + 1
 pieces (rotated o e n) = pieces e + 2
 pieces (binary o l r) = pieces l + pieces r + 1
 
+-- "right side a decimal from 0 to 15"
+abbrev pub largestCount : ℕ
+largestCount = 15
+
 -- "an expression has at most 32"
 abbrev pub mostPieces : ℕ
 mostPieces = 32

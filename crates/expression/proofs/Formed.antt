@@ -27,9 +27,10 @@ use Rattle.operators.specs.Operators.{table, noEntry, rowOf, entryIn, weakest, 
 use Rattle.tokens.specs.Tokens.{roundOpen, roundClose, squareOpen, squareClose, notToken, memoryToken, skip, next, slice, operatorAt, operatorEnd}
 use Rattle.bit_parts.specs.References.{referenceAt}
 use Rattle.bit_parts.proofs.Onward.{whole-known, bits-known}
-use Rattle.code.specs.Tree.{Expr, register, bitPart, constant, binary, width, pieces, mostPieces, toPart}
-use Rattle.code.specs.Readings.{Reading, read, outside, limited, ofReference, ofConstant, notOf, closed, largestCount, turned, joined}
-use Rattle.grammar.specs.Grammar.{deepest, level, more, operation, operand, worded, negated, enclosed, fuel}
+use Rattle.code.specs.Tree.{Expr, register, bitPart, constant, binary, width, pieces, largestCount, mostPieces, toPart}
+use Rattle.code.specs.Readings.{Reading, read, outside, limited, ofReference, ofConstant, notOf, closed, rotationOf, joined}
+use Rattle.grammar.specs.Says.{deepest}
+use Rattle.grammar.specs.Grammar.{level, more, operation, operand, worded, negated, enclosed, fuel}
 use Rattle.expression.specs.Expression.{trimmed, whole, expression, ofName, ofAddress, memoryAt, destination}
 use Rattle.code.specs.Formed.{isOf, Formed, Accepted, Reads, FormedDestination}
 use Rattle.operators.proofs.Rows.{row-is, no-row}
@@ -83,10 +84,10 @@ module _ (rs : List Named) where
       by-case Good (eqb (next s p) close) (λ e. by-case (Formed rs) (eqb close squareClose) (λ u. h) (λ u. h)) (λ e. tt)
   closed-formed s close outside h = tt
 
-  turned-formed : (row : ℕ) (l : Expr) (n : Number) → isOf rotations (entryIn row .operator) ≡ true → Formed rs l → Good (turned row l n)
-  unfolding turned
-  turned-formed row l (Plain n p) o h = by-case Good (leb n largestCount) (λ e. record { rotation = o; few = leb-true n largestCount e; side = h }) (λ e. tt)
-  turned-formed row l Unread o h = tt
+  rotation-formed : (row : ℕ) (l : Expr) (n : Number) → isOf rotations (entryIn row .operator) ≡ true → Formed rs l → Good (rotationOf row l n)
+  unfolding rotationOf
+  rotation-formed row l (Plain n p) o h = by-case Good (leb n largestCount) (λ e. record { rotation = o; few = leb-true n largestCount e; side = h }) (λ e. tt)
+  rotation-formed row l Unread o h = tt
 
   joined-formed : (row : ℕ) (l : Expr) (x : Reading) → isOf strongest (entryIn row .operator) ≡ false → isOf rotations (entryIn row .operator) ≡ false
       → Formed rs l → Good x → Good (joined row l x)
@@ -120,7 +121,7 @@ module _ (rs : List Named) where
       operation-formed (suc f) d k l p n e h =
           by-case Good (eqb k rotations)
           (λ t.
-          turned-formed (operatorAt s p) l (decimalAt s (skip s (operatorEnd s p)))
+          rotation-formed (operatorAt s p) l (decimalAt s (skip s (operatorEnd s p)))
           (strength-is (operatorAt s p) rotations (omega arith) ∙ ap (λ (i : ℕ). eqb i rotations) e ∙ t) h)
           (λ t.
           joined-formed (operatorAt s p) l (level f rs s d (k + 1) (operatorEnd s p))

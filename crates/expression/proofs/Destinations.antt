@@ -24,7 +24,8 @@ use Rattle.expression.specs.declared.Place.the-variants.{Register, Bits,
 use Rattle.code.specs.Tree.{Expr, pieces, mostPieces, toRegister, toPart, toMemory}
 use Rattle.code.specs.Readings.{Reading, read, outside, DestinationReading, leads, astray}
 use Rattle.grammar.specs.Grammar.{level, fuel}
-use Rattle.expression.specs.Expression.{trimmed, ofName, ofAddress, memoryAt, destination}
+use Rattle.expression.specs.Fields.{trimmed}
+use Rattle.expression.specs.Expression.{ofName, ofAddress, memoryAt, destination}
 use Rattle.code.specs.Met.{Held, Meets}
 use Rattle.expression.specs.Met.{Aims, Points, Addressed}
 use Rattle.grammar.proofs.Calls.{at, faulty}
@@ -53,7 +54,7 @@ module _ (s : List ℕ) (t : Expr) (p : ℕ) where
   abbrev shut : Bool
   shut = eqb (next s p) squareClose && eqb (skip s p + 1) (length s) && leb (pieces t) mostPieces
 
-  is-address : shut ≡ true → ofAddress s (read t p) ≡ leads (toMemory t)
+  pub is-address : shut ≡ true → ofAddress s (read t p) ≡ leads (toMemory t)
   unfolding ofAddress
   is-address e = rw (e, ofAddress)
 

@@ -31,7 +31,8 @@ use Rattle.code.specs.Tree.{Expr, register, bitPart, constant, binary, width, p
 use Rattle.code.specs.Readings.{Reading, read, outside, leads, limited, ofReference, ofConstant, notOf, closed, rotationOf, joined}
 use Rattle.grammar.specs.Says.{deepest}
 use Rattle.grammar.specs.Grammar.{level, more, operation, operand, worded, negated, enclosed, fuel}
-use Rattle.expression.specs.Expression.{trimmed, whole, expression, ofName, ofAddress, memoryAt, destination}
+use Rattle.expression.specs.Fields.{trimmed}
+use Rattle.expression.specs.Expression.{whole, expression, ofName, ofAddress, memoryAt, destination}
 use Rattle.code.specs.Formed.{isOf, Formed, Accepted, Reads, FormedDestination, LeadsTo}
 use Rattle.operators.proofs.Rows.{row-is, no-row}
 use Rattle.code.proofs.Formed.{formed-narrow}

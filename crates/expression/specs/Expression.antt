@@ -1,12 +1,11 @@
--- Whole fields, over the registers rs: an expression, and a destination.
--- "Spaces may stand between tokens in an expression or destination only, not at its ends."
+-- How whole fields are read, over the registers rs: an expression, and a destination. It is what the rules of Fields give and nothing else, by the laws
+-- `expression-said`, `expression-read`, `destination-said` and `destination-read`.
 -- Assumes nothing.
-use Prim.Native.Nat.{ℕ, _+_, _-_}
-use mathlib.Core.Bool.{Bool, true, false, not, _&&_}
+use Prim.Native.Nat.{ℕ, _+_}
+use mathlib.Core.Bool.{true, false, _&&_}
 use mathlib.Core.List.{List}
 use lib.Dec.{eqb, leb}
-use lib.ListN.{length, getD}
-use Rattle.characters.specs.Ascii.{byteOf}
+use lib.ListN.{length}
 use Rattle.characters.specs.Characters.{runEnd, same}
 use Rattle.characters.specs.Named.{Named}
 use Rattle.characters.specs.declared.Class.the-variants.{Word}
@@ -18,10 +17,7 @@ use Rattle.bit_parts.specs.References.{referenceAt}
 use Rattle.code.specs.Tree.{pieces, mostPieces, toRegister, toPart, toMemory}
 use Rattle.code.specs.Readings.{Reading, read, outside, DestinationReading, leads, astray}
 use Rattle.grammar.specs.Grammar.{level, fuel}
-
--- "not at its ends"
-abbrev pub trimmed : List ℕ → Bool
-trimmed s = not (eqb (getD s 0 0) (byteOf " ")) && not (eqb (getD s (length s - 1) 0) (byteOf " "))
+use Rattle.expression.specs.Fields.{trimmed}
 
 unfoldable pub whole : List ℕ → Reading → Reading
 whole s (read t p) = elim (eqb p (length s) && leb (pieces t) mostPieces) [ true ↦ read t p | false ↦ outside ]

@@ -5,8 +5,10 @@ use mathlib.Core.Bool.{false}
 use mathlib.Core.List.{List}
 use Prim.Native.Nat.{ℕ, zero, suc, _+_, _-_, _≤_, _<_}
 use native.Mathlib.Omega.{arith}
+use lib.Dec.{eqb}
 use lib.ListN.{length}
-use borrow.Author.Tests.{le-leb, eq-eqb}
+use borrow.Author.Tests.{le-leb, eq-eqb, eqb-true, eqb-false}
+use Rattle.laws.proofs.Tests.{by-test}
 use Rattle.laws.proofs.Lists.{present}
 use Rattle.word.specs.Word.{widest}
 use Rattle.characters.specs.Characters.{same}
@@ -19,7 +21,7 @@ use Rattle.operators.specs.Operators.{entryIn, weakest, strongest, rotations}
 use Rattle.tokens.specs.Tokens.{roundClose, squareClose, notToken, memoryToken, skip, next, operatorAt, operatorEnd}
 use Rattle.bit_parts.specs.References.{referenceAt}
 use Rattle.bit_parts.specs.declared.Reference.the-variants.{Whole, Part}
-use Rattle.bit_parts.proofs.Onward.{Past, word-of-letter, letters-past, decimal-past, constant-past, reference-past, operator-past}
+use Rattle.bit_parts.proofs.Onward.{Past, word-of-letter, letters-past, decimal-past, constant-past, reference-past, operator-inside, operator-past}
 use Rattle.code.specs.Tree.{Expr, register, bitPart, constant, memory, complemented, rotated, binary, width, largestCount}
 use Rattle.code.specs.Readings.{Reading, read, outside, limited, ofReference, ofConstant, notOf, closed, inside, rotationOf, joined}
 use Rattle.grammar.specs.Says.{wordEnd, word, operator, strength, Name, Says, stronger, operates, rotates, complements, encloses, fetches, is-register, is-part, is-constant}
@@ -67,6 +69,20 @@ module _ (s : List ℕ) where
   closed-is : (close : ℕ) (t : Expr) (q : ℕ) → next s q ≡ close → closed s close (read t q) ≡ read (inside close t) (skip s q + 1)
   unfolding closed
   closed-is close t q e = rw (eq-eqb (next s q) close e, closed)
+
+-- no operator stands at the end of the field
+pub end-weak : (s : List ℕ) → strength s (length s) ≡ 0
+end-weak s =
+    by-test (eqb (strength s (length s)) 0)
+    (λ t. eqb-true (strength s (length s)) 0 t)
+    (λ t.
+    let n = eqb-false (strength s (length s)) 0 t in
+    let k : 0 < strength s (length s) = positive (strength s (length s)) n in
+    absurd (omega (arith, onward class.Space s (length s), operator-inside s (length s) (strength s (length s)) refl k)))
+  where
+    positive : (k : ℕ) → (k ≡ 0 → ⊥) → 0 < k
+    positive zero h = absurd (h refl)
+    positive (suc k) h = omega arith
 
 module _ (rs : List Named) (s : List ℕ) where
   -- what is said ends after its start and within the field

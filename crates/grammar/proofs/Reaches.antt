@@ -124,7 +124,7 @@ module _ (s : List ℕ) where
     SpanTo (Bits a b p) = Reaches s at p
     SpanTo Bad = Unit {0}
 
-    abbrev ReferenceTo : Reference → Type 0
+    abbrev pub ReferenceTo : Reference → Type 0
     ReferenceTo (Whole r w p) = Reaches s at p
     ReferenceTo (Part r w a b p) = Reaches s at p
     ReferenceTo Unknown = Unit {0}
@@ -150,7 +150,7 @@ module _ (s : List ℕ) where
     part-to r w (Bits a b p) h = by-case ReferenceTo (leb a b && ltb b w) (λ t. h) (λ t. tt)
     part-to r w Bad h = tt
 
-    reference-to : (rs : List Named) (q : ℕ) → Reaches s at q → isWord (next s q) ≡ true → ReferenceTo (referenceAt rs s (skip s q))
+    pub reference-to : (rs : List Named) (q : ℕ) → Reaches s at q → isWord (next s q) ≡ true → ReferenceTo (referenceAt rs s (skip s q))
     unfolding referenceAt registerAt spanAt
     reference-to rs q h w =
         let end = wordEnd s q in

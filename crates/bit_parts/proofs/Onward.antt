@@ -57,7 +57,7 @@ ReferencePast s at (Part r w a b p) = Past s at p
 ReferencePast s at Unknown = Unit {0}
 
 -- words: digits and letters begin one, and it ends past its start
-word-of-digit : (b : ℕ) → isDigit b ≡ true → isWord b ≡ true
+pub word-of-digit : (b : ℕ) → isDigit b ≡ true → isWord b ≡ true
 word-of-digit b e = rw e (or-true (isLetter b))
   where
     or-true : (t : Bool) → t || true || eqb b 46 ≡ true
@@ -67,7 +67,7 @@ word-of-digit b e = rw e (or-true (isLetter b))
 pub word-of-letter : (b : ℕ) → isLetter b ≡ true → isWord b ≡ true
 word-of-letter b e = rw e
 
-word-past : (s : List ℕ) (at : ℕ) → isWord (getD s at 0) ≡ true → Past s at (runEnd Word s at)
+pub word-past : (s : List ℕ) (at : ℕ) → isWord (getD s at 0) ≡ true → Past s at (runEnd Word s at)
 word-past s at e =
     by-test (ltb at (length s))
     (λ t.
@@ -203,12 +203,18 @@ no-operator : (s : List ℕ) (at : ℕ) → length s ≤ skip s at → operatorA
 unfolding operatorAt operatorRow findIn same
 no-operator s at h = rw (drop-of-length-le s h, take-nil (tokenEnd s (skip s at) - skip s at))
 
-pub operator-past : (s : List ℕ) (at k : ℕ) → entryIn (operatorAt s at) .strength ≡ k → 0 < k → (operatorAt s at < length table) × Past s at (operatorEnd s at)
-unfolding operatorEnd
-operator-past s at k e h =
-    let r : operatorAt s at < length table = row-small (operatorAt s at) k e h in
-    by-test (ltb (skip s at) (length s))
-    (λ t.
-    let i = token-inside s (skip s at) (ltb-true (skip s at) (length s) t) in
-    (r, omega (arith, onward Space s at)))
-    (λ t. absurd (omega (arith, no-operator s at (ltb-false (skip s at) (length s) t))))
+module _ (s : List ℕ) (at k : ℕ) (e : entryIn (operatorAt s at) .strength ≡ k) (h : 0 < k) where
+  in-table : operatorAt s at < length table
+  in-table = row-small (operatorAt s at) k e h
+
+  pub operator-inside : skip s at < length s
+  operator-inside =
+      by-test (ltb (skip s at) (length s))
+      (λ t. ltb-true (skip s at) (length s) t)
+      (λ t. absurd (omega (arith, in-table, no-operator s at (ltb-false (skip s at) (length s) t))))
+
+  pub operator-past : (operatorAt s at < length table) × Past s at (operatorEnd s at)
+  unfolding operatorEnd
+  operator-past =
+      let i = token-inside s (skip s at) operator-inside in
+      (in-table, omega (arith, onward Space s at))

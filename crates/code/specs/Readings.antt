@@ -14,12 +14,17 @@ use Rattle.bit_parts.specs.declared.Reference.{Reference}
 use Rattle.bit_parts.specs.declared.Reference.the-variants.{Whole, Part, Unknown}
 use Rattle.operators.specs.Operators.{entryIn}
 use Rattle.tokens.specs.Tokens.{squareClose, skip, next}
-use Rattle.code.specs.Tree.{Expr, register, bitPart, constant, memory, complemented, rotated, binary, width}
+use Rattle.code.specs.Tree.{Expr, register, bitPart, constant, memory, complemented, rotated, binary, width, largestCount, Destination}
 
 -- a tree and the place after it, or nothing within the rules
 pub data Reading : Type 0 where
   read : Expr → ℕ → Reading
   outside : Reading
+
+-- a destination, or nothing within the rules
+pub data DestinationReading : Type 0 where
+  leads : Destination → DestinationReading
+  astray : DestinationReading
 
 -- "No width may pass 16"
 unfoldable pub limited : Expr → ℕ → Reading
@@ -49,12 +54,9 @@ closed s close (read t p) = elim (eqb (next s p) close) [ true ↦ read (inside 
 closed s close outside = outside
 
 -- "Slr, Srr (rotate; right side a decimal from 0 to 15 ..)"
-abbrev pub largestCount : ℕ
-largestCount = 15
-
-unfoldable pub turned : ℕ → Expr → Number → Reading
-turned row t (Plain n p) = elim (leb n largestCount) [ true ↦ read (rotated (entryIn row .operator) t n) p | false ↦ outside ]
-turned row t Unread = outside
+unfoldable pub rotationOf : ℕ → Expr → Number → Reading
+rotationOf row t (Plain n p) = elim (leb n largestCount) [ true ↦ read (rotated (entryIn row .operator) t n) p | false ↦ outside ]
+rotationOf row t Unread = outside
 
 -- the other operators
 unfoldable pub joined : ℕ → Expr → Reading → Reading

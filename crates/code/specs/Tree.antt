@@ -42,13 +42,16 @@ pieces (complemented e) = pieces e + 1
 pieces (rotated o e n) = pieces e + 2
 pieces (binary o l r) = pieces l + pieces r + 1
 
+-- "right side a decimal from 0 to 15"
+abbrev pub largestCount : ℕ
+largestCount = 15
+
 -- "an expression has at most 32"
 abbrev pub mostPieces : ℕ
 mostPieces = 32
 
--- "A destination is a name, a bit part `name<a>` or `name<a:b>` .., or `M[expression]`"; what is none of them leads nowhere
+-- "A destination is a name, a bit part `name<a>` or `name<a:b>` .., or `M[expression]`"
 pub data Destination : Type 0 where
   toRegister : ℕ → ℕ → Destination
   toPart : ℕ → ℕ → ℕ → ℕ → Destination
   toMemory : Expr → Destination
-  nowhere : Destination

@@ -19,9 +19,9 @@ use Rattle.code.specs.declared.Cursor.{Cursor}
 use Rattle.code.specs.declared.Part.the-variants.{Found, Fault}
 use Rattle.operators.specs.Operators.{table, rowOf, entryIn, widthBy}
 use Rattle.operators.proofs.Rows.{row-is}
-use Rattle.code.specs.Tree.{Expr, memory, complemented, rotated, binary, width, pieces}
+use Rattle.code.specs.Tree.{Expr, memory, complemented, rotated, binary, width, pieces, largestCount}
 use Rattle.tokens.specs.Tokens.{squareClose, skip, next}
-use Rattle.code.specs.Readings.{Reading, read, outside, limited, closed, notOf, largestCount, turned, joined}
+use Rattle.code.specs.Readings.{Reading, read, outside, limited, closed, notOf, rotationOf, joined}
 use Rattle.code.specs.Code.{codeOf}
 use Rattle.code.specs.Met.{Held, Meets, Made, Behind, Combined, UnderNot}
 use Rattle.bit_parts.proofs.Onward.{Past}
@@ -102,40 +102,40 @@ module _ (s : List ℕ) (row at : ℕ) (c : Cursor) (w : ℕ) (now : List ℕ) w
   abbrev count : Number
   count = decimalAt s (skip s at)
 
-  abbrev turns : ℕ → Expr → ℕ → Reading
-  turns f l p = turned row l count
+  abbrev rotating : ℕ → Expr → ℕ → Reading
+  rotating f l p = rotationOf row l count
 
-  uncounted : (l : Expr) → count ≡ Unread → turned row l count ≡ outside
-  unfolding turned
+  uncounted : (l : Expr) → count ≡ Unread → rotationOf row l count ≡ outside
+  unfolding rotationOf
   uncounted l e = rw e
 
-  over-counted : (l : Expr) (n p : ℕ) → count ≡ Plain n p → largestCount < n → turned row l count ≡ outside
-  unfolding turned
-  over-counted l n p e h = rw (e, lt-leb n largestCount h, turned)
+  over-counted : (l : Expr) (n p : ℕ) → count ≡ Plain n p → largestCount < n → rotationOf row l count ≡ outside
+  unfolding rotationOf
+  over-counted l n p e h = rw (e, lt-leb n largestCount h, rotationOf)
 
-  counted : (l : Expr) (n p : ℕ) → count ≡ Plain n p → n ≤ largestCount → turned row l count ≡ read (rotated (entryIn row .operator) l n) p
-  unfolding turned
-  counted l n p e h = rw (e, le-leb n largestCount h, turned)
+  counted : (l : Expr) (n p : ℕ) → count ≡ Plain n p → n ≤ largestCount → rotationOf row l count ≡ read (rotated (entryIn row .operator) l n) p
+  unfolding rotationOf
+  counted l n p e h = rw (e, le-leb n largestCount h, rotationOf)
 
-  unturned : (a b d : ℕ) (after : List ℕ) → ((l : Expr) → turned row l count ≡ outside) → Behind 0 turns s a b d c w Fault now after
-  unturned a b d after e =
-      record { meets = λ l p from before h f n. met (turned row l count) outside Fault from before after (e l) tt; grown = tt }
+  unrotated : (a b d : ℕ) (after : List ℕ) → ((l : Expr) → rotationOf row l count ≡ outside) → Behind 0 rotating s a b d c w Fault now after
+  unrotated a b d after e =
+      record { meets = λ l p from before h f n. met (rotationOf row l count) outside Fault from before after (e l) tt; grown = tt }
 
-  pub no-count : (a b d : ℕ) (after : List ℕ) → count ≡ Unread → Behind 0 turns s a b d c w Fault now after
-  no-count a b d after e = unturned a b d after (λ l. uncounted l e)
+  pub no-count : (a b d : ℕ) (after : List ℕ) → count ≡ Unread → Behind 0 rotating s a b d c w Fault now after
+  no-count a b d after e = unrotated a b d after (λ l. uncounted l e)
 
-  pub large-count : (a b d : ℕ) (after : List ℕ) (n p : ℕ) → count ≡ Plain n p → largestCount < n → Behind 0 turns s a b d c w Fault now after
-  large-count a b d after n p e h = unturned a b d after (λ l. over-counted l n p e h)
+  pub large-count : (a b d : ℕ) (after : List ℕ) (n p : ℕ) → count ≡ Plain n p → largestCount < n → Behind 0 rotating s a b d c w Fault now after
+  large-count a b d after n p e h = unrotated a b d after (λ l. over-counted l n p e h)
 
   pub rotates : (n p : ℕ) → count ≡ Plain n p → n ≤ largestCount → row < length table → w ≤ widest → Past s at p → c .place < at
-      → Behind 0 turns s (at + 1) (c .words + 2) (c .pieces + 2) c w (Found (behind c p 2) w) now (sets now (4 * c .words) ((4 + row) ∷ w ∷ n ∷ 0 ∷ []))
+      → Behind 0 rotating s (at + 1) (c .words + 2) (c .pieces + 2) c w (Found (behind c p 2) w) now (sets now (4 * c .words) ((4 + row) ∷ w ∷ n ∷ 0 ∷ []))
   unfolding codeOf
   rotates n p e h r l o i =
       record {
         meets =
             λ l q from before g f m.
             let v = over l (rotated (entryIn row .operator) l n) q p ((4 + row) ∷ w ∷ n ∷ 0 ∷ []) 2 c w from before now refl (word l (g .width-is)) refl g in
-            met (turned row l count) (read (rotated (entryIn row .operator) l n) p) (Found (behind c p 2) w) from before
+            met (rotationOf row l count) (read (rotated (entryIn row .operator) l n) p) (Found (behind c p 2) w) from before
             (sets now (4 * c .words) ((4 + row) ∷ w ∷ n ∷ 0 ∷ []))
             (counted l n p e h)
             (record { place-is = refl; width-is = g .width-is; pieces-are = v .pieces-are; words-are = v .words-are; code-is = v .code-is });

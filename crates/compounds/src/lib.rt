@@ -14,7 +14,7 @@ ghost use Rattle.word.specs.Word.{widest};
 ghost use Rattle.operators.specs.Operators.{table, entryIn, rotations, widthBy};
 ghost use Rattle.constants.specs.Constants.{decimalAt};
 ghost use Rattle.tokens.specs.Tokens.{skip};
-ghost use Rattle.code.specs.Readings.{closed, turned, joined};
+ghost use Rattle.code.specs.Readings.{closed, rotationOf, joined};
 ghost use Rattle.code.specs.Met.{Room, Made, Behind, Combined, UnderNot, capacity};
 
 // "words of 12 bits"
@@ -63,7 +63,7 @@ pub fn closed_part(
     }
 }
 
-// What was read, turned over.
+// What was read, complemented.
 pub fn complemented_part(code: &mut [u16; CODE_PLACES], c: Cursor, width: u16) -> Part
     requires { ⌜ c .words < capacity ⌝ ∗ ⌜ c .pieces < capacity ⌝ ∗ ⌜ width ≤ widest ⌝ }
     ensures { λ r. ⌜ UnderNot c width r (now (code .entry)) (now (code .exit)) ⌝ }
@@ -83,7 +83,7 @@ pub fn rotated_part(
     at: usize,
 ) -> Part
     requires { ⌜ Room (now s) c 0 ⌝ ∗ ⌜ entryIn row .strength ≡ rotations ⌝ ∗ ⌜ width ≤ widest ⌝ ∗ ⌜ c .place < at ⌝ ∗ ⌜ at ≤ length (now s) ⌝ }
-    ensures { λ r. ⌜ Behind 0 (λ f l p. turned row l (decimalAt (now (s .entry)) (skip (now (s .entry)) at))) (now (s .entry)) (at + 1) (c .words + 2) (c .pieces + 2)
+    ensures { λ r. ⌜ Behind 0 (λ f l p. rotationOf row l (decimalAt (now (s .entry)) (skip (now (s .entry)) at))) (now (s .entry)) (at + 1) (c .words + 2) (c .pieces + 2)
         c width r (now (code .entry)) (now (code .exit)) ⌝ }
 {
     match constants::decimal_at(s, tokens::skip_spaces(s, at)) {

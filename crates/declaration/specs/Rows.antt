@@ -4,7 +4,7 @@
 use Prim.Native.Nat.{ℕ, _+_}
 use mathlib.Core.List.{List}
 use Rattle.characters.specs.Named.{Named}
-use Rattle.code.specs.Tree.{Expr, pieces, Destination, toRegister, toPart, toMemory, nowhere}
+use Rattle.code.specs.Tree.{Expr, pieces, Destination, toRegister, toPart, toMemory}
 
 pub data Row : Type 0 where
   -- "`do`, condition, destination, expression"
@@ -17,7 +17,6 @@ abbrev pub addressPieces : Destination → ℕ
 addressPieces (toRegister r w) = 0
 addressPieces (toPart r w a b) = 0
 addressPieces (toMemory t) = pieces t
-addressPieces nowhere = 0
 
 abbrev pub rowPieces : Row → ℕ
 rowPieces (does c d e) = pieces c + addressPieces d + pieces e

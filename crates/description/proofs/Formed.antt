@@ -18,10 +18,9 @@ use Rattle.constants.specs.Constants.{decimalAt}
 use Rattle.laws.proofs.Tests.{by-case}
 use Rattle.characters.proofs.Strings.{equal}
 use Rattle.laws.proofs.Joined.{and-left, and-right}
-use Rattle.code.specs.Readings.{Reading, read, outside}
-use Rattle.code.specs.Tree.{Destination}
+use Rattle.code.specs.Readings.{Reading, read, outside, DestinationReading, leads, astray}
 use Rattle.expression.specs.Expression.{expression, destination}
-use Rattle.code.specs.Formed.{Registers, Accepted, Reads, FormedDestination}
+use Rattle.code.specs.Formed.{Registers, Accepted, Reads, FormedDestination, LeadsTo}
 use Rattle.expression.proofs.Formed.{expression-formed, destination-formed}
 use Rattle.targets.specs.declared.Target.{Target}
 use Rattle.targets.specs.declared.Target.the-variants.{Passes, Missing}
@@ -29,7 +28,7 @@ use Rattle.declaration.specs.Rows.{Row, does, goes, rowPieces, Description}
 use Rattle.text_limits.specs.Limits.{mostBytes, mostRegisters, mostRows, mostLabels, allPieces}
 use Rattle.declaration.specs.Lines.{regWord, doWord, goWord, atWord, Progress, Step, refused, next, widthOf, endOf, isWidth, isNewName, addRegister, regLine, isNewLabel, addLabel, atLine}
 use Rattle.targets.specs.Targets.{isAt, isRow, further, passes}
-use Rattle.row.specs.Lines.{addRow, isSomewhere, RowReading, formed, unformed, doRow, withRow, doLine, rowsPassed, missingAt, goRow, goLine}
+use Rattle.row.specs.Lines.{addRow, RowReading, formed, unformed, doRow, withRow, doLine, rowsPassed, missingAt, goRow, goLine}
 use Rattle.line.specs.Line.{isFit, readLine}
 use Rattle.description.specs.Description.{Answer, accepted, turnedDown, header, nothing, hasRun, finished, readLines, readText}
 use Rattle.description.specs.Formed.{FormedRow, FormedRows, Lands, Lower, piecesOf, Formed, labelsIn, Keeps}
@@ -194,12 +193,12 @@ module _ (all : ℕ) (p : Progress) (l : Line) (ls : List Line) (h : Kept all p 
   FormedReading (formed row) = FormedRow rs row × Lands row (rowsIn ls)
   FormedReading unformed = Unit {0}
 
-  do-row-formed : (c : Reading) (d : Destination) (e : Reading) → Reads (Accepted rs) c → FormedDestination rs d → Reads (Accepted rs) e
+  do-row-formed : (c : Reading) (d : DestinationReading) (e : Reading) → Reads (Accepted rs) c → LeadsTo (FormedDestination rs) d → Reads (Accepted rs) e
       → FormedReading (doRow c d e)
   unfolding doRow
-  do-row-formed (read c x) d (read e y) i j k =
-      by-case FormedReading (isSomewhere d) (λ t. (record { condition = i; somewhere = t; destination = j; value = k }, tt)) (λ t. tt)
-  do-row-formed (read c x) d outside i j k = tt
+  do-row-formed (read c x) (leads d) (read e y) i j k = (record { condition = i; destination = j; value = k }, tt)
+  do-row-formed (read c x) (leads d) outside i j k = tt
+  do-row-formed (read c x) astray e i j k = tt
   do-row-formed outside d e i j k = tt
 
   -- lines of rows

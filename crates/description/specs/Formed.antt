@@ -13,13 +13,12 @@ use Rattle.code.specs.Formed.{Registers, Accepted, FormedDestination}
 use Rattle.declaration.specs.Rows.{Row, does, goes, rowPieces, Description}
 use Rattle.text_limits.specs.Limits.{mostRegisters, mostRows, mostLabels, allPieces}
 use Rattle.declaration.specs.Lines.{atWord}
-use Rattle.row.specs.Lines.{isSomewhere}
 use Rattle.description.specs.Description.{hasRun}
 
 -- a row over the registers
 abbrev pub FormedRow : List Named → Row → Type 0
 FormedRow rs (does c d e) =
-    record { condition : Accepted rs c; somewhere : isSomewhere d ≡ true; destination : FormedDestination rs d; value : Accepted rs e }
+    record { condition : Accepted rs c; destination : FormedDestination rs d; value : Accepted rs e }
 FormedRow rs (goes c n) = Accepted rs c
 
 abbrev pub FormedRows : List Named → List Row → Type 0

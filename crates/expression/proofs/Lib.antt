@@ -1,3 +1,4 @@
 pub mod WholeFields
 pub mod Destinations
 pub mod Formed
+pub mod Fields

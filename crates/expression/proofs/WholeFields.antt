@@ -17,14 +17,15 @@ use Rattle.operators.specs.Operators.{weakest}
 use Rattle.code.specs.Tree.{Expr, pieces, mostPieces}
 use Rattle.code.specs.Readings.{Reading, read, outside}
 use Rattle.grammar.specs.Grammar.{level, fuel}
-use Rattle.expression.specs.Expression.{trimmed, whole, expression}
+use Rattle.expression.specs.Fields.{trimmed}
+use Rattle.expression.specs.Expression.{whole, expression}
 use Rattle.code.specs.Met.{Held, Meets, Taken, Grown}
 use Rattle.expression.specs.Met.{Same, Whole}
 use Rattle.code.proofs.Parts.{met}
 
 -- by the definition's test
 module _ (s : List ℕ) (t : Expr) (p : ℕ) where
-  all-of-it : eqb p (length s) && leb (pieces t) mostPieces ≡ true → whole s (read t p) ≡ read t p
+  pub all-of-it : eqb p (length s) && leb (pieces t) mostPieces ≡ true → whole s (read t p) ≡ read t p
   unfolding whole
   all-of-it e = rw (e, whole)
 

@@ -11,7 +11,8 @@ ghost use Prim.Native.Nat.{_+_, _≤_};
 ghost use lib.ListN.{length};
 ghost use Rattle.word.specs.Word.{widest};
 ghost use Rattle.names.specs.Dictionaries.{entries, places};
-ghost use Rattle.expression.specs.Expression.{trimmed, expression, destination, memoryAt, ofName};
+ghost use Rattle.expression.specs.Fields.{trimmed};
+ghost use Rattle.expression.specs.Expression.{expression, destination, memoryAt, ofName};
 ghost use Rattle.code.specs.Met.{Leaf, capacity};
 ghost use Rattle.expression.specs.Met.{Whole, Aims, Points, Addressed};
 

@@ -21,10 +21,11 @@ use Rattle.code.specs.Tree.{Expr}
 use Rattle.tokens.specs.Tokens.{roundOpen, roundClose, squareOpen, squareClose, notToken, memoryToken, skip, next, slice, operatorAt, operatorEnd}
 use Rattle.tokens.proofs.Tokens.{at-mark, off-mark}
 use Rattle.bit_parts.specs.References.{referenceAt}
-use Rattle.code.specs.Readings.{Reading, read, outside, ofConstant, ofReference, notOf, closed, turned, joined}
-use Rattle.grammar.specs.Grammar.{deepest, level, more, operation, operand, worded, negated, enclosed}
+use Rattle.code.specs.Readings.{Reading, read, outside, ofConstant, ofReference, notOf, closed, rotationOf, joined}
+use Rattle.grammar.specs.Says.{deepest}
+use Rattle.grammar.specs.Grammar.{level, more, operation, operand, worded, negated, enclosed}
 use Rattle.code.specs.Met.{Held, Meets, Taken, Grown, Behind, OneMore}
-use Rattle.grammar.specs.Met.{Answer}
+use Rattle.grammar.specs.Met.{Branch}
 use Rattle.code.proofs.Parts.{met}
 
 -- one call more
@@ -36,7 +37,7 @@ step n g h r from before after e m (suc f) l = met (g (suc f)) (h f) r from befo
 -- an answer by what one call comes to
 pub answered : {need : ℕ} {g : ℕ → Reading} {s : List ℕ} {a words pieces : ℕ} {r : Part} {from : Cursor} {before after : List ℕ} (n : ℕ) (h : ℕ → Reading)
     → suc n ≤ need → ((f : ℕ) → g (suc f) ≡ h f) → ((f : ℕ) → n ≤ f → Meets (h f) r from before after) → Grown s a words pieces r
-    → Answer need g s a words pieces r from before after
+    → Branch need g s a words pieces r from before after
 answered {need} {g} {s} {a} {words} {pieces} {r} {from} {before} {after} n h l e m grown =
     record { meets = λ f k. step n g h r from before after e m f (omega arith); grown = grown }
 
@@ -107,9 +108,9 @@ module _ (rs : List Named) (s : List ℕ) (d : ℕ) where
       more-goes-on h f = rw (eq-eqb (entryIn (operatorAt s p) .strength) k (sym strength-is ∙ h), more)
 
     module _ (end : ℕ) (ends : end ≡ operatorEnd s p) where
-      pub operation-turns : k ≡ rotations → (f : ℕ) → operation (suc f) rs s d k l p ≡ turned row l (decimalAt s (skip s end))
+      pub operation-rotates : k ≡ rotations → (f : ℕ) → operation (suc f) rs s d k l p ≡ rotationOf row l (decimalAt s (skip s end))
       unfolding operation
-      operation-turns h f = rw (stands, ends, eq-eqb k rotations h, operation)
+      operation-rotates h f = rw (stands, ends, eq-eqb k rotations h, operation)
 
       pub operation-joins : (k ≡ rotations → ⊥) → (f : ℕ) → operation (suc f) rs s d k l p ≡ joined row l (level f rs s d (k + 1) end)
       unfolding operation

@@ -1,6 +1,5 @@
--- The grammar of expressions, by place in the field s, over the registers rs.
--- "Spaces may stand between tokens in an expression or destination only, not at its ends."
--- Each call of the grammar lowers the number f, which only bounds how deep the calls go: see `fuel`.
+-- How the grammar of expressions is read, by place in the field s, over the registers rs: what is said (Says) and nothing else, by the laws `read-said` and
+-- `says-read`. Each call of the grammar lowers the number f, which only bounds how deep the calls go: see `fuel`.
 -- Assumes nothing.
 use Prim.Native.Nat.{ℕ, zero, suc, _+_, _*_}
 use mathlib.Core.Bool.{true, false}
@@ -15,13 +14,10 @@ use Rattle.operators.specs.Operators.{entryIn, weakest, strongest, rotations}
 use Rattle.tokens.specs.Tokens.{roundOpen, roundClose, squareOpen, squareClose, notToken, memoryToken, skip, next, slice, operatorAt, operatorEnd}
 use Rattle.bit_parts.specs.References.{referenceAt}
 use Rattle.code.specs.Tree.{Expr}
-use Rattle.code.specs.Readings.{Reading, read, outside, ofReference, ofConstant, notOf, closed, turned, joined}
+use Rattle.grammar.specs.Says.{deepest}
+use Rattle.code.specs.Readings.{Reading, read, outside, ofReference, ofConstant, notOf, closed, rotationOf, joined}
 
--- "Open brackets, parentheses and Nots nest to 8"
-abbrev pub deepest : ℕ
-deepest = 8
-
--- "Not is prefix; the others group from the left": a level's expression is a part of the next stronger level, and more of its own strength
+-- a level's expression is a part of the next stronger level, and more of its own strength
 unfoldable mutual
   pub level : ℕ → List Named → List ℕ → ℕ → ℕ → ℕ → Reading
   level zero rs s d k at = outside
@@ -45,11 +41,11 @@ unfoldable mutual
   operation zero rs s d k l p = outside
   operation (suc f) rs s d k l p =
       elim (eqb k rotations) [
-        | true ↦ turned (operatorAt s p) l (decimalAt s (skip s (operatorEnd s p)))
+        | true ↦ rotationOf (operatorAt s p) l (decimalAt s (skip s (operatorEnd s p)))
         | false ↦ joined (operatorAt s p) l (level f rs s d (k + 1) (operatorEnd s p))
       ]
 
-  -- "Expressions hold names, bit parts, `M[..]`, `(..)` and constants"
+  -- an operand: in parentheses, a word or a constant
   pub operand : ℕ → List Named → List ℕ → ℕ → ℕ → Reading
   operand zero rs s d at = outside
   operand (suc f) rs s d at =
@@ -75,7 +71,6 @@ unfoldable mutual
             ]
       ]
 
-  -- "a Not is open to its operand's end"
   pub negated : ℕ → List Named → List ℕ → ℕ → ℕ → Reading
   negated zero rs s d at = outside
   negated (suc f) rs s d at = elim (ltb d deepest) [ true ↦ notOf (level f rs s (d + 1) strongest at) | false ↦ outside ]

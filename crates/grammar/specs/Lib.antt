@@ -1,2 +1,4 @@
+pub mod Says
 pub mod Grammar
 pub mod Met
+pub mod Reaches

@@ -9,7 +9,7 @@ use Rattle.code.specs.Readings.{Reading}
 use Rattle.code.specs.Met.{Meets, Grown}
 
 -- a part that is read from a cursor on, by every number of calls from `need` on
-pub record Answer (need : ℕ) (g : ℕ → Reading) (s : List ℕ) (a words pieces : ℕ) (r : Part) (from : Cursor) (before after : List ℕ) : Type 0 where
+pub record Branch (need : ℕ) (g : ℕ → Reading) (s : List ℕ) (a words pieces : ℕ) (r : Part) (from : Cursor) (before after : List ℕ) : Type 0 where
   pub meets : (f : ℕ) → need ≤ f → Meets (g f) r from before after
   pub grown : Grown s a words pieces r
 

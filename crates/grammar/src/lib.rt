@@ -19,7 +19,7 @@ ghost use Rattle.tokens.specs.Tokens.{operatorAt};
 ghost use Rattle.code.specs.Readings.{read};
 ghost use Rattle.grammar.specs.Grammar.{level, more, operation, operand, worded, negated, enclosed};
 ghost use Rattle.code.specs.Met.{Room, Behind};
-ghost use Rattle.grammar.specs.Met.{Answer, calls};
+ghost use Rattle.grammar.specs.Met.{Branch, calls};
 
 // "Open brackets, parentheses and Nots nest to 8."
 const DEEPEST: usize = 8;
@@ -35,7 +35,7 @@ pub fn read_level(
     c: Cursor,
 ) -> Part
     requires { ⌜ Room (now s) c 0 ⌝ ∗ ⌜ d .count ≤ places ⌝ ∗ ⌜ 1 ≤ strength ⌝ ∗ ⌜ strength ≤ strongest ⌝ }
-    ensures { λ r. ⌜ Answer (calls (now (s .entry)) (c .place) (9 - strength))
+    ensures { λ r. ⌜ Branch (calls (now (s .entry)) (c .place) (9 - strength))
         (λ f. level f (entries (now (text .entry)) d) (now (s .entry)) depth strength (c .place))
         (now (s .entry)) (c .place + 1) (c .words + 1) (c .pieces + 1) r c (now (code .entry)) (now (code .exit)) ⌝ }
 {
@@ -119,7 +119,7 @@ fn read_operand(
     c: Cursor,
 ) -> Part
     requires { ⌜ Room (now s) c 0 ⌝ ∗ ⌜ d .count ≤ places ⌝ }
-    ensures { λ r. ⌜ Answer (calls (now (s .entry)) (c .place) 1)
+    ensures { λ r. ⌜ Branch (calls (now (s .entry)) (c .place) 1)
         (λ f. operand f (entries (now (text .entry)) d) (now (s .entry)) depth (c .place))
         (now (s .entry)) (c .place + 1) (c .words + 1) (c .pieces + 1) r c (now (code .entry)) (now (code .exit)) ⌝ }
 {
@@ -155,7 +155,7 @@ fn read_worded(
     c: Cursor,
 ) -> Part
     requires { ⌜ Room (now s) c 0 ⌝ ∗ ⌜ d .count ≤ places ⌝ ∗ ⌜ isLetter (getD (now s) (c .place) 0) ≡ true ⌝ }
-    ensures { λ r. ⌜ Answer (calls (now (s .entry)) (c .place) 0)
+    ensures { λ r. ⌜ Branch (calls (now (s .entry)) (c .place) 0)
         (λ f. worded f (entries (now (text .entry)) d) (now (s .entry)) depth (c .place))
         (now (s .entry)) (c .place + 1) (c .words + 1) (c .pieces + 1) r c (now (code .entry)) (now (code .exit)) ⌝ }
 {
@@ -195,7 +195,7 @@ fn read_negated(
     c: Cursor,
 ) -> Part
     requires { ⌜ Room (now s) c 1 ⌝ ∗ ⌜ d .count ≤ places ⌝ }
-    ensures { λ r. ⌜ Answer (calls (now (s .entry)) (c .place) 3)
+    ensures { λ r. ⌜ Branch (calls (now (s .entry)) (c .place) 3)
         (λ f. negated f (entries (now (text .entry)) d) (now (s .entry)) depth (c .place))
         (now (s .entry)) (c .place + 1) (c .words + 2) (c .pieces + 2) r c (now (code .entry)) (now (code .exit)) ⌝ }
 {
@@ -221,7 +221,7 @@ fn read_enclosed(
     c: Cursor,
 ) -> Part
     requires { ⌜ Room (now s) c 1 ⌝ ∗ ⌜ d .count ≤ places ⌝ ∗ ⌜ 0 < close ⌝ }
-    ensures { λ r. ⌜ Answer (calls (now (s .entry)) (c .place) 9)
+    ensures { λ r. ⌜ Branch (calls (now (s .entry)) (c .place) 9)
         (λ f. enclosed f (entries (now (text .entry)) d) (now (s .entry)) depth close (c .place))
         (now (s .entry)) (c .place + 1) (c .words + 2) (c .pieces + 2) r c (now (code .entry)) (now (code .exit)) ⌝ }
 {

@@ -59,12 +59,12 @@ const TABLE: [Entry; OPERATORS] = [
     Entry {
         operator: Operator::RotateLeft,
         strength: 5,
-        widths: Widths::Left, // of what Slr turns
+        widths: Widths::Left, // of what Slr rotates
     },
     Entry {
         operator: Operator::RotateRight,
         strength: 5,
-        widths: Widths::Left, // of what Srr turns
+        widths: Widths::Left, // of what Srr rotates
     },
     Entry {
         operator: Operator::Add,

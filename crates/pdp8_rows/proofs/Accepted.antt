@@ -12,7 +12,7 @@ use Rattle.names.specs.Names.{isName}
 use Rattle.operator_names.specs.OperatorNames.{findIn, operatorRow}
 use Rattle.tokens.specs.Tokens.{tokenEnd, operatorAt, operatorEnd}
 use Rattle.bit_parts.specs.References.{secondBit, firstBit, spanAt, partOf, registerAt, referenceAt}
-use Rattle.code.specs.Readings.{limited, ofReference, ofConstant, notOf, closed, turned, joined}
+use Rattle.code.specs.Readings.{limited, ofReference, ofConstant, notOf, closed, rotationOf, joined}
 use Rattle.grammar.specs.Grammar.{level}
 use Rattle.expression.specs.Expression.{whole, expression, ofName, ofAddress, memoryAt, destination}
 use Rattle.declaration.specs.Lines.{addRegister, regLine, addLabel, atLine}
@@ -26,7 +26,7 @@ use Rattle.pdp8_rows.proofs.Tree.{tree}
 
 pub shipped-accepted : readText shippedText ≡ accepted tree
 unfolding run runEnd same numberAt decimalAt markedAt shortestFrom ofDecimal constantAt lines field hasFields isName find findIn operatorRow tokenEnd
-    operatorAt operatorEnd secondBit firstBit spanAt partOf registerAt referenceAt limited ofReference ofConstant notOf closed turned joined level whole
+    operatorAt operatorEnd secondBit firstBit spanAt partOf registerAt referenceAt limited ofReference ofConstant notOf closed rotationOf joined level whole
     expression ofName ofAddress memoryAt destination addRegister regLine addRow doRow withRow doLine passes goRow goLine addLabel atLine readLine finished
     readLines readText shippedText
 shipped-accepted = refl

@@ -8,7 +8,7 @@ use native.Mathlib.Omega.{arith}
 use lib.ListN.{length, length-append}
 use lib.Seq.{sets}
 use Rattle.code.specs.Code.{codeOf}
-use Rattle.code.specs.Tree.{Destination, toRegister, toPart, toMemory, nowhere}
+use Rattle.code.specs.Tree.{Destination, toRegister, toPart, toMemory}
 use Rattle.laws.proofs.Lists.{sets-behind}
 use Rattle.code.proofs.Pieces.{code-pieces}
 use Rattle.declaration.specs.Rows.{Row, does, goes, rowPieces, addressPieces}
@@ -25,7 +25,6 @@ row-code-pieces (does c d e) =
     address-pieces (toRegister r w) = omega arith
     address-pieces (toPart r w a b) = omega arith
     address-pieces (toMemory t) = code-pieces t
-    address-pieces nowhere = omega arith
 row-code-pieces (goes c n) = code-pieces c
 
 -- a row behind the others

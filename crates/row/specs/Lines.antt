@@ -2,15 +2,14 @@
 -- "within one, lower numbers first, left field first"
 -- Assumes nothing.
 use Prim.Native.Nat.{ℕ, _+_}
-use mathlib.Core.Bool.{Bool, true, false, _&&_}
+use mathlib.Core.Bool.{true, false, _&&_}
 use mathlib.Core.List.{List, [], _∷_, _++_}
 use lib.Dec.{eqb, leb, ltb}
 use lib.ListN.{length}
 use Rattle.fields.specs.Fields as text
 use Rattle.fields.specs.Fields.{field, hasFields}
 use Rattle.names.specs.Names.{isName}
-use Rattle.code.specs.Readings.{Reading, read, outside}
-use Rattle.code.specs.Tree.{Destination, toRegister, toPart, toMemory, nowhere}
+use Rattle.code.specs.Readings.{Reading, read, outside, DestinationReading, leads, astray}
 use Rattle.expression.specs.Expression.{expression, destination}
 use Rattle.declaration.specs.declared.faults.Fault.the-variants.{Line, Expression, Label, Limit}
 use Rattle.targets.specs.declared.Target.{Target}
@@ -36,20 +35,15 @@ addRow p r gone =
       | false ↦ refused Limit
     ]
 
-abbrev pub isSomewhere : Destination → Bool
-isSomewhere (toRegister r w) = true
-isSomewhere (toPart r w a b) = true
-isSomewhere (toMemory t) = true
-isSomewhere nowhere = false
-
 -- a row, or an "expression or destination outside the rules, unknown names included"
 pub data RowReading : Type 0 where
   formed : Row → RowReading
   unformed : RowReading
 
-unfoldable pub doRow : Reading → Destination → Reading → RowReading
-doRow (read c x) d (read e y) = elim (isSomewhere d) [ true ↦ formed (does c d e) | false ↦ unformed ]
-doRow (read c x) d outside = unformed
+unfoldable pub doRow : Reading → DestinationReading → Reading → RowReading
+doRow (read c x) (leads d) (read e y) = formed (does c d e)
+doRow (read c x) (leads d) outside = unformed
+doRow (read c x) astray e = unformed
 doRow outside d e = unformed
 
 unfoldable pub withRow : Progress → RowReading → Step

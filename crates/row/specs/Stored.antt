@@ -13,7 +13,7 @@ use Rattle.fields.specs.Fields.{field}
 use Rattle.characters.specs.Named.{Named}
 use Rattle.names.specs.Names.{isName}
 use Rattle.code.specs.Tree.{Expr, Destination}
-use Rattle.code.specs.Readings.{read}
+use Rattle.code.specs.Readings.{read, DestinationReading, leads, astray}
 use Rattle.expression.specs.Expression.{expression, destination}
 use Rattle.expression.specs.declared.Place.{Place}
 use Rattle.expression.specs.declared.Place.the-variants.{Register, Bits, Word, Nowhere}
@@ -30,7 +30,7 @@ use Rattle.declaration.specs.Stored.{progressOf, stepOf, Within}
 use Rattle.targets.specs.Targets.{passes}
 use Rattle.row.specs.declared.cells.Aim.{Aim}
 use Rattle.row.specs.declared.actions.RowRead.{RowRead}
-use Rattle.row.specs.Lines.{isSomewhere, RowReading, formed, unformed, doRow, rowsPassed, missingAt}
+use Rattle.row.specs.Lines.{RowReading, formed, unformed, doRow, rowsPassed, missingAt}
 use Rattle.row_table.specs.RowTable.{rowCells}
 use Rattle.row.specs.Cells.{goCells, addressCode, rowCode, code, kindOf, registerOf, rightOf, sizeOf, cellsOf, cells}
 
@@ -101,7 +101,6 @@ aimOf Nowhere from = record { kind = 0; register = 0; right = 0; size = 0; end =
 
 -- a destination that was read: its cells, and its address's words and pieces behind those before it
 pub record Aiming (x : Destination) (s : List ℕ) (a : Aim) (from : Cursor) (before after : List ℕ) : Type 0 where
-  pub somewhere : isSomewhere x ≡ true
   pub kind-is : a .kind ≡ kindOf x
   pub register-is : a .register ≡ registerOf x
   pub right-is : a .right ≡ rightOf x
@@ -112,9 +111,14 @@ pub record Aiming (x : Destination) (s : List ℕ) (a : Aim) (from : Cursor) (be
   pub words-few : a .end .words ≤ from .words + length s
   pub pieces-few : a .end .pieces ≤ from .pieces + length s
 
-pub record Aimed (x : Destination) (s : List ℕ) (a : Aim) (from : Cursor) (before after : List ℕ) : Type 0 where
-  pub aims : a .found ≡ true → Aiming x s a from before after
-  pub misses : a .found ≡ false → isSomewhere x ≡ false
+pub record Reached (x : DestinationReading) (s : List ℕ) (a : Aim) (from : Cursor) (before after : List ℕ) : Type 0 where
+  pub to : Destination
+  pub is : x ≡ leads to
+  pub aiming : Aiming to s a from before after
+
+pub record Aimed (x : DestinationReading) (s : List ℕ) (a : Aim) (from : Cursor) (before after : List ℕ) : Type 0 where
+  pub aims : a .found ≡ true → Reached x s a from before after
+  pub misses : a .found ≡ false → x ≡ astray
 
 -- a row that was read: its cells, and its words and pieces behind those before it
 pub record Forming (row : Row) (cs : List ℕ) (end from : Cursor) (before after : List ℕ) : Type 0 where

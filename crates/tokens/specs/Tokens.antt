@@ -3,11 +3,13 @@
 -- Assumes nothing.
 use Prim.Native.Nat.{ℕ, _+_, _-_}
 use mathlib.Core.Bool.{true, false}
-use mathlib.Core.List.{List, [], _∷_}
+use mathlib.Core.List.{List}
+use lib.Dec.{eqb}
 use lib.ListN.{getD, take, drop}
 use Rattle.characters.specs.Ascii.{ascii, byteOf}
 use Rattle.characters.specs.Characters.{isWord, runEnd}
-use Rattle.characters.specs.declared.Class.the-variants.{Space, Word}
+use Rattle.characters.specs.declared.Class.the-variants.{Space, Word, Binary, Octal}
+use Rattle.constants.specs.Constants.{binaryMark, octalMark}
 use Rattle.operator_names.specs.OperatorNames.{operatorRow}
 
 -- the signs `(`, `)`, `[`, `]`, `<`, `>` and `:`
@@ -47,9 +49,17 @@ skip s at = runEnd Space s at
 abbrev pub next : List ℕ → ℕ → ℕ
 next s at = getD s (skip s at) 0
 
--- "a run of letters, digits and dots, is one token; so is every other character": the place after a token that is no marked constant
+-- the place after the token at a place: a constant's digits behind its mark, a run, or one character
 unfoldable pub tokenEnd : List ℕ → ℕ → ℕ
-tokenEnd s at = elim (isWord (getD s at 0)) [ true ↦ runEnd Word s at | false ↦ at + 1 ]
+tokenEnd s at =
+    elim (isWord (getD s at 0)) [
+      | true ↦ runEnd Word s at
+      | false ↦
+          elim (eqb (getD s at 0) binaryMark) [
+            | true ↦ runEnd Binary s (at + 1)
+            | false ↦ elim (eqb (getD s at 0) octalMark) [ true ↦ runEnd Octal s (at + 1) | false ↦ at + 1 ]
+          ]
+    ]
 
 -- a token from its start to its end
 abbrev pub slice : List ℕ → ℕ → ℕ → List ℕ

@@ -17,11 +17,17 @@ fn token_end(s: &[u8], at: usize) -> usize
     requires { ⌜ at ≤ length (now s) ⌝ }
     ensures { λ r. ⌜ r ≡ tokenEnd (now (s .entry)) at ⌝ }
 {
-    if characters::is_of(Class::Word, characters::byte(s, at)) {
-        characters::run_end(s, at, Class::Word)
-    } else {
-        at + 1
+    let first = characters::byte(s, at);
+    if characters::is_of(Class::Word, first) {
+        return characters::run_end(s, at, Class::Word);
     }
+    if first == b'\'' {
+        return characters::run_end(s, at + 1, Class::Binary);
+    }
+    if first == b'#' {
+        return characters::run_end(s, at + 1, Class::Octal);
+    }
+    at + 1
 }
 
 // The table's row of the operator that stands next, the row past the last if none does.

@@ -5,7 +5,7 @@ use mathlib.Core.List.{List, [], _∷_}
 use Prim.Native.Nat.{ℕ}
 use native.Mathlib.Omega.{arith}
 use lib.ListN.{length}
-use Rattle.expression.specs.Expression.{trimmed}
+use Rattle.expression.specs.Fields.{trimmed}
 use borrow.Author.Needs.{needs}
 use Rattle.expression.proofs.is_trimmed.Statement.{statement}
 use Rattle.expression.proofs.is_trimmed.Tie as tie

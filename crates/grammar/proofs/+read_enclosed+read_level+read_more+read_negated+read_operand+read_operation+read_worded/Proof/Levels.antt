@@ -9,9 +9,9 @@ use Rattle.operators.specs.declared.Entry.{Entry}
 use Rattle.operators.specs.Operators.{strongest, entryIn}
 use Rattle.tokens.specs.Tokens.{skip}
 use Rattle.grammar.specs.Grammar.{level, more, operation, operand}
-use Rattle.code.specs.Readings.{read, turned, joined}
+use Rattle.code.specs.Readings.{read, rotationOf, joined}
 use Rattle.grammar.specs.Met.{calls}
-use Rattle.grammar.proofs.Calls.{answered, answered-behind, regrown, still-fault, level-operand, level-more, more-stops, more-goes-on, operation-turns, operation-joins, more-outside, feed, grown-by-one}
+use Rattle.grammar.proofs.Calls.{answered, answered-behind, regrown, still-fault, level-operand, level-more, more-stops, more-goes-on, operation-rotates, operation-joins, more-outside, feed, grown-by-one}
 use Rattle.constants.specs.Constants.{decimalAt}
 use Rattle.bit_parts.proofs.Onward.{operator-past}
 use Rattle.grammar.proofs.read_level.Reads as read-level
@@ -211,8 +211,8 @@ read-operation-rotated-part-requires t c κs =
     let called = ended .before .before .before .before in
     let a = called .args in
     let past = operator-past (a .s .now) (a .left .place) (a .strength) (called .pre .1 .1 .1 .1 .1) (called .pre .1 .1 .1 .0 .0) in
-    let turns = c .before .if1 .taken ∙ ap (λ (e : Entry). e .strength) (c .before .before .entry-in .ensures) in
-    let row = ap (λ (r : ℕ). entryIn r .strength) (ended .before .operator-at .ensures) ∙ called .pre .1 .1 .1 .1 .1 ∙ turns in
+    let rotates = c .before .if1 .taken ∙ ap (λ (e : Entry). e .strength) (c .before .before .entry-in .ensures) in
+    let row = ap (λ (r : ℕ). entryIn r .strength) (ended .before .operator-at .ensures) ∙ called .pre .1 .1 .1 .1 .1 ∙ rotates in
     omega (arith, called .pre, past, row, ended .operator-end .ensures)
 
 pub read-operation-returns : (t : ℕ) → read-operation-lts.Need-returns (read-operation-claims t) (read-operation-at t) read-operation.Post
@@ -230,9 +230,9 @@ read-operation-returns t c =
     let stands = ended .before .operator-at .ensures in
     let end = ended .operator-end .result in
     let ends = ended .operator-end .ensures in
-    let turns = c .before .before .if1 .taken ∙ ap (λ (e : Entry). e .strength) (c .before .before .before .entry-in .ensures) in
-    answered-behind 0 (λ g l. turned row l (decimalAt s (skip s end))) (omega arith)
-    (λ l. operation-turns rs s d k l p row stands end ends turns)
+    let rotates = c .before .before .if1 .taken ∙ ap (λ (e : Entry). e .strength) (c .before .before .before .entry-in .ensures) in
+    answered-behind 0 (λ g l. rotationOf row l (decimalAt s (skip s end))) (omega arith)
+    (λ l. operation-rotates rs s d k l p row stands end ends rotates)
     (λ l from before h g b. c .rotated-part .ensures .meets l p from before h 0 (omega arith))
     (regrown s (c .rotated-part .result) _ _ _ _ _ _ (c .rotated-part .ensures .grown) (omega arith))
 

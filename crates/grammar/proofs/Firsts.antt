@@ -1,0 +1,128 @@
+-- What a token tells by its first byte: closing brackets are no operators, the words Not and M begin with a letter, and a constant begins neither with a letter
+-- nor with a parenthesis. And words as compared.
+-- Assumes nothing.
+use mathlib.Core.Path.{_≡_, refl, sym, ap, subst, _∙_}
+use mathlib.Core.Bool.{true, false, false≢true, _&&_}
+use mathlib.Core.List.{List, [], _∷_}
+use Prim.Native.Nat.{ℕ, zero, suc, _+_, _-_, _≤_, _<_}
+use native.Mathlib.Omega.{arith}
+use lib.Dec.{eqb, leb}
+use lib.ListN.{length, getD, take, drop}
+use lib.Seq.{drop-cons}
+use borrow.Author.Tests.{leb-true, lt-leb, eqb-true}
+use Rattle.laws.proofs.Tests.{by-test, by-case}
+use Rattle.laws.proofs.Joined.{and-left, and-right}
+use Rattle.laws.proofs.Lists.{present}
+use Rattle.characters.specs.Ascii.{digit}
+use Rattle.characters.specs.Characters.{isDigit, isLetter, isWord, runEnd, same}
+use Rattle.characters.specs.declared.Class.the-variants.{Word, Binary, Octal, Decimal}
+use Rattle.characters.proofs.Strings.{equal}
+use Rattle.constants.specs.Constants.{binaryMark, octalMark, binaryDigits, octalDigits, largest, isPlain, numberAt, decimalAt, markedAt, ofDecimal, constantAt}
+use Rattle.constants.specs.declared.Number.{Number}
+use Rattle.constants.specs.declared.Constant.{Constant}
+use Rattle.constants.specs.declared.Constant.the-variants.{Found, Missing}
+use Rattle.operators.specs.Operators.{entryIn}
+use Rattle.operator_names.specs.OperatorNames.{operatorRow, findIn}
+use Rattle.tokens.specs.Tokens.{roundOpen, roundClose, squareClose, notToken, memoryToken, skip, next, tokenEnd, operatorAt}
+use Rattle.tokens.proofs.Tokens.{other-end}
+use Rattle.grammar.specs.Says.{wordEnd, word, strength}
+
+-- a sign that is no operator
+module _ (s : List ℕ) (q : ℕ) where
+  sign-none : (b : ℕ) → next s q ≡ b → 0 < b → isWord b ≡ false → (b ≡ binaryMark → ⊥) → (b ≡ octalMark → ⊥) → operatorAt s q ≡ operatorRow (b ∷ [])
+  unfolding operatorAt
+  sign-none b e h w m o =
+      let i = skip s q in
+      let z : tokenEnd s i ≡ i + 1 = other-end s i (ap isWord e ∙ w) (λ x. m (sym e ∙ x)) (λ x. o (sym e ∙ x)) in
+      let one : (i + 1) - i ≡ 1 = omega arith in
+      ap (λ (n : ℕ). operatorRow (take (n - i) (drop i s))) z
+      ∙ ap (λ (n : ℕ). operatorRow (take n (drop i s))) one
+      ∙ ap (λ (l : List ℕ). operatorRow (take 1 l)) (drop-cons s i 0 (present s i b e h))
+      ∙ ap (λ (x : ℕ). operatorRow (x ∷ [])) e
+
+  pub round-weak : next s q ≡ roundClose → strength s q ≡ 0
+  unfolding operatorRow findIn same
+  round-weak e = ap (λ (i : ℕ). entryIn i .strength) (sign-none roundClose e (omega arith) refl (λ x. omega (arith, x)) (λ x. omega (arith, x)))
+
+  pub square-weak : next s q ≡ squareClose → strength s q ≡ 0
+  unfolding operatorRow findIn same
+  square-weak e = ap (λ (i : ℕ). entryIn i .strength) (sign-none squareClose e (omega arith) refl (λ x. omega (arith, x)) (λ x. omega (arith, x)))
+
+-- words as compared
+pub is-word : (a b : List ℕ) → same b b ≡ true → a ≡ b → same a b ≡ true
+is-word a b i e = ap (λ (z : List ℕ). same z b) e ∙ i
+
+pub is-no-word : (a b : List ℕ) → (a ≡ b → ⊥) → same a b ≡ false
+is-no-word a b h = by-test (same a b) (λ t. absurd (h (equal a b t))) (λ t. t)
+
+pub memory-no-not : same memoryToken notToken ≡ false
+unfolding same
+memory-no-not = refl
+
+-- the first byte of a part
+empty : (b : ℕ) (t : List ℕ) → [] ≡ b ∷ t → ⊥
+empty b t e = none (ap (λ (l : List ℕ). length l) e)
+  where
+    none : 0 ≡ suc (length t) → ⊥
+    none h = omega (arith, h)
+
+first-is : (s : List ℕ) (n i b : ℕ) (t : List ℕ) → take n (drop i s) ≡ b ∷ t → getD s i 0 ≡ b
+first-is [] zero i b t e = absurd (empty b t e)
+first-is [] (suc n) zero b t e = absurd (empty b t e)
+first-is [] (suc n) (suc i) b t e = absurd (empty b t e)
+first-is (x ∷ s) zero zero b t e = absurd (empty b t e)
+first-is (x ∷ s) zero (suc i) b t e = absurd (empty b t e)
+first-is (x ∷ s) (suc n) zero b t e = ap (λ (l : List ℕ). getD l 0 0) e
+first-is (x ∷ s) (suc n) (suc i) b t e = first-is s (suc n) i b t e
+
+pub not-letter : (s : List ℕ) (at : ℕ) → word s at ≡ notToken → isLetter (next s at) ≡ true
+not-letter s at e = ap isLetter (first-is s (wordEnd s at - skip s at) (skip s at) _ _ e)
+
+pub memory-letter : (s : List ℕ) (at : ℕ) → word s at ≡ memoryToken → isLetter (next s at) ≡ true
+memory-letter s at e = ap isLetter (first-is s (wordEnd s at - skip s at) (skip s at) _ _ e)
+
+pub no-open : (x : ℕ) → isLetter x ≡ true → x ≡ roundOpen → ⊥
+no-open x e o = false≢true (sym (ap isLetter o) ∙ e)
+
+-- a constant's first byte is a mark or a digit
+abbrev First : ℕ → Constant → Type 0
+First b (Found v w p) = (b ≡ roundOpen → ⊥) × (isLetter b ≡ false)
+First b Missing = Unit {0}
+
+digit-first : (b : ℕ) → isDigit b ≡ true → (b ≡ roundOpen → ⊥) × (isLetter b ≡ false)
+digit-first b e =
+    let h : b ≤ digit 9 = leb-true b (digit 9) (and-right (leb (digit 0) b) (leb b (digit 9)) e) in
+    let l : digit 0 ≤ b = leb-true (digit 0) b (and-left (leb (digit 0) b) (leb b (digit 9)) e) in
+    ((λ o. omega (arith, o, l)), rw (lt-leb 65 b (omega (arith, h)), lt-leb 97 b (omega (arith, h))))
+
+any-first : (b : ℕ) (x : Constant) → (b ≡ roundOpen → ⊥) × (isLetter b ≡ false) → First b x
+any-first b (Found v w p) h = h
+any-first b Missing h = tt
+
+decimal-first : (s : List ℕ) (i : ℕ) → First (getD s i 0) (ofDecimal (decimalAt s i))
+unfolding decimalAt ofDecimal
+decimal-first s i =
+    let b = getD s i 0 in
+    let plain = isPlain b i (runEnd Decimal s i) (runEnd Word s i) in
+    by-case (λ (n : Number). First b (ofDecimal n)) (isDigit b && plain)
+    (λ t.
+    by-case (λ (n : Number). First b (ofDecimal n)) (leb (numberAt 10 s i (runEnd Word s i - i) 0) largest)
+    (λ u. digit-first b (and-left (isDigit b) plain t))
+    (λ u. tt))
+    (λ t. tt)
+
+pub constant-first : (s : List ℕ) (i : ℕ) {v w p : ℕ} → constantAt s i ≡ Found v w p → (getD s i 0 ≡ roundOpen → ⊥) × (isLetter (getD s i 0) ≡ false)
+unfolding constantAt
+constant-first s i e =
+    let b = getD s i 0 in
+    subst (First b) e
+    (by-case (First b) (eqb b binaryMark)
+    (λ t.
+    let m = eqb-true b binaryMark t in
+    any-first b (markedAt Binary 2 1 binaryDigits s (i + 1)) ((λ o. omega (arith, o, m)), ap isLetter m))
+    (λ t.
+    by-case (First b) (eqb b octalMark)
+    (λ u.
+    let m = eqb-true b octalMark u in
+    any-first b (markedAt Octal 8 3 octalDigits s (i + 1)) ((λ o. omega (arith, o, m)), ap isLetter m))
+    (λ u. decimal-first s i)))

@@ -1,0 +1,189 @@
+-- What is said stops at a token's end, and there are only whole tokens in it, with spaces between them.
+-- Assumes nothing.
+use mathlib.Core.Path.{_≡_, refl, sym, ap, subst, _∙_}
+use mathlib.Core.Bool.{true, false, _&&_}
+use mathlib.Core.List.{List}
+use Prim.Native.Nat.{ℕ, _+_, _-_, _≤_, _<_}
+use native.Mathlib.Omega.{arith}
+use lib.Dec.{eqb, leb, ltb}
+use lib.ListN.{length, getD}
+use borrow.Author.Tests.{eqb-true}
+use Rattle.laws.proofs.Tests.{by-case}
+use Rattle.laws.proofs.Joined.{and-left}
+use Rattle.laws.proofs.Lists.{present}
+use Rattle.characters.specs.Characters.{isDigit, isWord, runEnd}
+use Rattle.characters.specs.Named.{Named, find}
+use Rattle.characters.specs.declared.Class.the-variants.{Word, Binary, Octal, Decimal}
+use Rattle.constants.specs.Constants.{binaryMark, octalMark, binaryDigits, octalDigits, largest, isPlain, numberAt, decimalAt, markedAt, ofDecimal, constantAt}
+use Rattle.constants.specs.declared.Number.{Number}
+use Rattle.constants.specs.declared.Number.the-variants.{Plain, Unread}
+use Rattle.constants.specs.declared.Constant.{Constant}
+use Rattle.constants.specs.declared.Constant.the-variants.{Found, Missing}
+use Rattle.operators.specs.Operators.{rotations}
+use Rattle.tokens.specs.Tokens.{roundOpen, roundClose, squareOpen, squareClose, angleOpen, angleClose, colon, skip, next, slice, tokenEnd, operatorEnd}
+use Rattle.tokens.proofs.Tokens.{word-end, binary-end, octal-end, other-end}
+use Rattle.bit_parts.specs.References.{secondBit, firstBit, spanAt, partOf, widthIn, registerAt, referenceAt}
+use Rattle.bit_parts.specs.declared.Span.{Span}
+use Rattle.bit_parts.specs.declared.Span.the-variants.{Bits, Bad}
+use Rattle.bit_parts.specs.declared.Reference.{Reference}
+use Rattle.bit_parts.specs.declared.Reference.the-variants.{Whole, Part, Unknown}
+use Rattle.bit_parts.proofs.Onward.{word-of-digit, word-of-letter, word-past, operator-inside}
+use Rattle.code.specs.Tree.{Expr}
+use Rattle.grammar.specs.Says.{wordEnd, Says, stronger, operates, rotates, complements, encloses, fetches, is-register, is-part, is-constant}
+use Rattle.grammar.specs.Reaches.{Reaches, nothing, token}
+use Rattle.grammar.proofs.Firsts.{not-letter, memory-letter}
+
+module _ (s : List ℕ) where
+  pub onward-to : {at q p : ℕ} → Reaches s at q → Reaches s q p → Reaches s at p
+  onward-to h nothing = h
+  onward-to h (token g l) = token (onward-to h g) l
+
+  module _ (at : ℕ) where
+    -- one token more: a word, and a sign
+    one-more : {q p : ℕ} → Reaches s at q → skip s q < length s → tokenEnd s (skip s q) ≡ p → Reaches s at p
+    one-more h l e = subst (Reaches s at) e (token h l)
+
+    pub word-to : (q : ℕ) → Reaches s at q → isWord (next s q) ≡ true → Reaches s at (wordEnd s q)
+    word-to q h e =
+        let past = word-past s (skip s q) e in
+        one-more h (omega (arith, past)) (word-end s (skip s q) e)
+
+    sign-to : (q b : ℕ) → Reaches s at q → next s q ≡ b → 0 < b → isWord b ≡ false → (b ≡ binaryMark → ⊥) → (b ≡ octalMark → ⊥) → Reaches s at (skip s q + 1)
+    sign-to q b h e o w m n =
+        one-more h (present s (skip s q) b e o) (other-end s (skip s q) (ap isWord e ∙ w) (λ x. m (sym e ∙ x)) (λ x. n (sym e ∙ x)))
+
+    open-to : (q : ℕ) → Reaches s at q → next s q ≡ roundOpen → Reaches s at (skip s q + 1)
+    open-to q h e = sign-to q roundOpen h e (omega arith) refl (λ x. omega (arith, x)) (λ x. omega (arith, x))
+
+    close-to : (q : ℕ) → Reaches s at q → next s q ≡ roundClose → Reaches s at (skip s q + 1)
+    close-to q h e = sign-to q roundClose h e (omega arith) refl (λ x. omega (arith, x)) (λ x. omega (arith, x))
+
+    pub square-to : (q : ℕ) → Reaches s at q → next s q ≡ squareOpen → Reaches s at (skip s q + 1)
+    square-to q h e = sign-to q squareOpen h e (omega arith) refl (λ x. omega (arith, x)) (λ x. omega (arith, x))
+
+    pub shut-to : (q : ℕ) → Reaches s at q → next s q ≡ squareClose → Reaches s at (skip s q + 1)
+    shut-to q h e = sign-to q squareClose h e (omega arith) refl (λ x. omega (arith, x)) (λ x. omega (arith, x))
+
+    less-to : (q : ℕ) → Reaches s at q → next s q ≡ angleOpen → Reaches s at (skip s q + 1)
+    less-to q h e = sign-to q angleOpen h e (omega arith) refl (λ x. omega (arith, x)) (λ x. omega (arith, x))
+
+    more-to : (q : ℕ) → Reaches s at q → eqb (next s q) angleClose ≡ true → Reaches s at (skip s q + 1)
+    more-to q h t = sign-to q angleClose h (eqb-true (next s q) angleClose t) (omega arith) refl (λ x. omega (arith, x)) (λ x. omega (arith, x))
+
+    colon-to : (q : ℕ) → Reaches s at q → eqb (next s q) colon ≡ true → Reaches s at (skip s q + 1)
+    colon-to q h t = sign-to q colon h (eqb-true (next s q) colon t) (omega arith) refl (λ x. omega (arith, x)) (λ x. omega (arith, x))
+
+    -- a decimal
+    abbrev NumberTo : Number → Type 0
+    NumberTo (Plain v p) = Reaches s at p
+    NumberTo Unread = Unit {0}
+
+    decimal-to : (q : ℕ) → Reaches s at q → NumberTo (decimalAt s (skip s q))
+    unfolding decimalAt
+    decimal-to q h =
+        let i = skip s q in
+        let plain = isPlain (getD s i 0) i (runEnd Decimal s i) (runEnd Word s i) in
+        by-case NumberTo (isDigit (getD s i 0) && plain)
+        (λ t.
+        by-case NumberTo (leb (numberAt 10 s i (runEnd Word s i - i) 0) largest)
+        (λ u. word-to q h (word-of-digit (getD s i 0) (and-left (isDigit (getD s i 0)) plain t)))
+        (λ u. tt))
+        (λ t. tt)
+
+    -- a constant
+    abbrev ConstantTo : Constant → Type 0
+    ConstantTo (Found v w p) = Reaches s at p
+    ConstantTo Missing = Unit {0}
+
+    of-decimal : (n : Number) → NumberTo n → ConstantTo (ofDecimal n)
+    unfolding ofDecimal
+    of-decimal (Plain v p) h = h
+    of-decimal Unread h = tt
+
+    constant-to : (q : ℕ) → Reaches s at q → ConstantTo (constantAt s (skip s q))
+    unfolding constantAt markedAt
+    constant-to q h =
+        let i = skip s q in
+        by-case ConstantTo (eqb (getD s i 0) binaryMark)
+        (λ t.
+        let e = eqb-true (getD s i 0) binaryMark t in
+        by-case ConstantTo (ltb (i + 1) (runEnd Binary s (i + 1)) && leb (runEnd Binary s (i + 1)) (i + 1 + binaryDigits))
+        (λ u. one-more h (present s i binaryMark e (omega arith)) (binary-end s i e))
+        (λ u. tt))
+        (λ t.
+        by-case ConstantTo (eqb (getD s i 0) octalMark)
+        (λ v.
+        let e = eqb-true (getD s i 0) octalMark v in
+        by-case ConstantTo (ltb (i + 1) (runEnd Octal s (i + 1)) && leb (runEnd Octal s (i + 1)) (i + 1 + octalDigits))
+        (λ u. one-more h (present s i octalMark e (omega arith)) (octal-end s i e))
+        (λ u. tt))
+        (λ v. of-decimal (decimalAt s i) (decimal-to q h)))
+
+    -- a name, or a bit part
+    abbrev SpanTo : Span → Type 0
+    SpanTo (Bits a b p) = Reaches s at p
+    SpanTo Bad = Unit {0}
+
+    abbrev pub ReferenceTo : Reference → Type 0
+    ReferenceTo (Whole r w p) = Reaches s at p
+    ReferenceTo (Part r w a b p) = Reaches s at p
+    ReferenceTo Unknown = Unit {0}
+
+    second-to : (a : ℕ) (n : Number) → NumberTo n → SpanTo (secondBit s a n)
+    unfolding secondBit
+    second-to a (Plain b p) h = by-case SpanTo (eqb (next s p) angleClose) (λ t. more-to p h t) (λ t. tt)
+    second-to a Unread h = tt
+
+    first-to : (n : Number) → NumberTo n → SpanTo (firstBit s n)
+    unfolding firstBit
+    first-to (Plain a p) h =
+        by-case SpanTo (eqb (next s p) angleClose)
+        (λ t. more-to p h t)
+        (λ t.
+        by-case SpanTo (eqb (next s p) colon)
+        (λ u. second-to a (decimalAt s (skip s (skip s p + 1))) (decimal-to (skip s p + 1) (colon-to p h u)))
+        (λ u. tt))
+    first-to Unread h = tt
+
+    part-to : (r w : ℕ) (n : Span) → SpanTo n → ReferenceTo (partOf r w n)
+    unfolding partOf
+    part-to r w (Bits a b p) h = by-case ReferenceTo (leb a b && ltb b w) (λ t. h) (λ t. tt)
+    part-to r w Bad h = tt
+
+    pub reference-to : (rs : List Named) (q : ℕ) → Reaches s at q → isWord (next s q) ≡ true → ReferenceTo (referenceAt rs s (skip s q))
+    unfolding referenceAt registerAt spanAt
+    reference-to rs q h w =
+        let end = wordEnd s q in
+        let r = find (slice s (skip s q) end) rs in
+        let e = word-to q h w in
+        by-case ReferenceTo (ltb r (length rs))
+        (λ t.
+        by-case ReferenceTo (eqb (next s end) angleOpen)
+        (λ u.
+        part-to r (widthIn rs r) (firstBit s (decimalAt s (skip s (skip s end + 1))))
+        (first-to (decimalAt s (skip s (skip s end + 1))) (decimal-to (skip s end + 1) (less-to end e (eqb-true (next s end) angleOpen u)))))
+        (λ u. e))
+        (λ t. tt)
+
+    -- an operator
+    operator-to : (q : ℕ) → Reaches s at q → skip s q < length s → Reaches s at (operatorEnd s q)
+    unfolding operatorEnd
+    operator-to q h l = token h l
+
+module _ (rs : List Named) (s : List ℕ) where
+  pub says-reaches : {d k at p : ℕ} {t : Expr} → Says rs s d k at p t → 1 ≤ k → Reaches s at p
+  says-reaches (stronger h) o = says-reaches h (omega arith)
+  says-reaches (operates {k = k} {at = at} {q = q} h e n g w) o =
+      onward-to s (operator-to s at q (says-reaches h o) (operator-inside s q k e o)) (says-reaches g (omega arith))
+  says-reaches (rotates {at = at} {q = q} h e g l) o =
+      subst (NumberTo s at) g (decimal-to s at (operatorEnd s q) (operator-to s at q (says-reaches h o) (operator-inside s q rotations e o)))
+  says-reaches (complements {at = at} e l h) o =
+      onward-to s (word-to s at at nothing (word-of-letter (next s at) (not-letter s at e))) (says-reaches h o)
+  says-reaches (encloses {at = at} {q = q} e l h c) o =
+      close-to s at q (onward-to s (open-to s at at nothing e) (says-reaches h (omega arith))) c
+  says-reaches (fetches {at = at} {q = q} w e l h c) o =
+      let m = word-to s at at nothing (word-of-letter (next s at) (memory-letter s at w)) in
+      shut-to s at q (onward-to s (square-to s at (wordEnd s at) m e) (says-reaches h (omega arith))) c
+  says-reaches (is-register {at = at} n g w) o = subst (ReferenceTo s at) g (reference-to s at rs at nothing (word-of-letter (next s at) (n .letter)))
+  says-reaches (is-part {at = at} n g w) o = subst (ReferenceTo s at) g (reference-to s at rs at nothing (word-of-letter (next s at) (n .letter)))
+  says-reaches (is-constant {at = at} g w) o = subst (ConstantTo s at) g (constant-to s at at nothing)

@@ -71,4 +71,5 @@ runs-agree m registers memory budget list s =
           subst (λ (a : emulator.Report). Same a (evaluate shippedText registers memory budget list)) (sym (emulated s))
           (subst (λ (b : evaluator.Report). Same (emulator.finished (steps.run budget (start m memory))) b) (sym (evaluated s))
           (same-answers list (ends-alike s)));
+      rows = ap (λ (b : evaluator.Report). b .list) (evaluated s);
     }

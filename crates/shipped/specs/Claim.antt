@@ -2,9 +2,9 @@
 -- definitions that the two entries' contracts cite; the shipped description is what the reader reads in its text.
 -- Assumes nothing.
 use mathlib.Core.Path.{_≡_}
-use mathlib.Core.List.{List}
+use mathlib.Core.List.{List, _++_}
 use Prim.Native.Nat.{ℕ, _≤_}
-use lib.ListN.{length, take}
+use lib.ListN.{length, take, drop}
 use Rattle.state.specs.Limits.{budgetLimit, rowPlaces}
 use Rattle.state.specs.Acceptable.{Acceptable, Fitting}
 use Rattle.machine.specs.declared.Machine.{Machine}
@@ -51,10 +51,13 @@ cyclesOf registers memory budget = cycles.run shipped budget (record { registers
 pub record Claim (m : Machine) (registers memory : List ℕ) (budget : ℕ) (list : List ℕ) : Type 0 where
   -- "Every description we ship keeps the rules for its text, and the reader accepts it"
   pub read : readText shippedText ≡ accepted shipped
-  -- neither refuses: the one answer is that of the run by the machine's steps, the other, its row list included, that of the run by the rows' cycles
+  -- neither refuses: the one answer is that of the run by the machine's steps, the other that of the run by the rows' cycles
   pub emulated : emulate m memory budget ≡ emulator.finished (steps.run budget (start m memory))
   pub evaluated : evaluate shippedText registers memory budget list ≡ evaluator.finished (cyclesOf registers memory budget) list
   pub same : Same (emulate m memory budget) (evaluate shippedText registers memory budget list)
+  -- "The evaluator lists the rows that acted in its last cycle, rising; later places stay"
+  pub rows : evaluate shippedText registers memory budget list .list
+      ≡ cyclesOf registers memory budget .acted ++ drop (length (cyclesOf registers memory budget .acted)) list
 
 -- the two programs' own answers, each on its own memory: what each is, and that they are the same wherever the two memories hold the same words, the evaluator's
 -- first six registers are the machine's, and nothing is refused

@@ -2,7 +2,7 @@
 -- Assumes nothing.
 use mathlib.Core.Bool.{_&&_}
 use mathlib.Core.List.{List}
-use Prim.Native.Nat.{ℕ, _+_, _/_, _≤_}
+use Prim.Native.Nat.{ℕ, _+_, _≤_}
 use native.Mathlib.Omega.{arith}
 use lib.Dec.{eqb}
 use lib.ListN.{length, getD, set}
@@ -14,7 +14,7 @@ use Rattle.machine.specs.State.{State, word, withPc, withMemory, ac}
 use Rattle.machine.specs.Instruction.{op, flag}
 use Rattle.machine.specs.Interrupt.{ion, iof, interruptTest, inputOutput}
 use Rattle.operate.specs.Operate.{group1, group2, group3, operate}
-use Rattle.reference.specs.Address.{firstAddress, indexed, effective, afterIndexing}
+use Rattle.reference.specs.Address.{firstAddress, isIndex, indexed, effective, afterIndexing}
 use Rattle.reference.specs.Reference.{operation, reference}
 use Rattle.pdp8.specs.Step.{execute, step}
 use Rattle.desk_last_step.specs.LastStep.{changeLines, wordLineBytes, changeLinesBytes}
@@ -42,7 +42,7 @@ module _ (before : List ℕ) (n : ℕ) where
   indexed-few : (a : ℕ) (memory : List ℕ) → Few before n memory → Few before (n + wordLineBytes) (indexed a memory)
   unfolding indexed
   indexed-few a memory h =
-      pick-either (Few before (n + wordLineBytes)) (eqb (a / 8) 1) (stores memory a (next (getD memory a 0)) h) (more memory h)
+      pick-either (Few before (n + wordLineBytes)) (isIndex a) (stores memory a (next (getD memory a 0)) h) (more memory h)
 
   indexing-few : (i last : ℕ) (memory : List ℕ) → Few before n memory → Few before (n + wordLineBytes) (afterIndexing i last memory)
   unfolding afterIndexing

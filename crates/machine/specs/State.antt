@@ -1,9 +1,9 @@
 -- The state of the machine: its six registers and memory; the parts of LAC; and what a state is that keeps every width.
 -- Assumes nothing.
 use mathlib.Core.List.{List, [], _∷_}
-use Prim.Native.Nat.{ℕ, _+_, _*_, _/_, _^_, _<_}
+use Prim.Native.Nat.{ℕ, _^_, _<_}
 use lib.ListN.{getD, set}
-use Rattle.word.specs.Word.{wordBits, bits}
+use Rattle.word.specs.Word.{wordBits, bits, withBits}
 use Rattle.state.specs.Acceptable.{Acceptable}
 use Rattle.machine.specs.declared.Machine.{Machine}
 use Rattle.machine.specs.declared.Processor.{Processor}
@@ -84,12 +84,12 @@ link lac = bits lacBits 0 0 lac
 abbrev pub ac : ℕ → ℕ
 ac lac = bits lacBits 1 12 lac
 
--- LAC with AC cleared, and with x as AC
-abbrev pub withoutAc : ℕ → ℕ
-withoutAc lac = lac / 2 ^ wordBits * 2 ^ wordBits
+-- LAC with x as L, and with x as AC
+abbrev pub withLink : ℕ → ℕ → ℕ
+withLink lac x = withBits lacBits 0 0 lac x
 
 abbrev pub withAc : ℕ → ℕ → ℕ
-withAc lac x = withoutAc lac + x
+withAc lac x = withBits lacBits 1 12 lac x
 
 -- every register and every word fits
 pub record Good (s : State) : Type 0 where

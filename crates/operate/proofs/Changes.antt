@@ -4,32 +4,31 @@
 use mathlib.Core.Path.{_≡_, refl}
 use Prim.Native.Nat.{ℕ, zero, suc, _+_, _%_, _^_, _<_}
 use native.Mathlib.Omega.{arith}
-use lib.Bits.{or-lt}
+use lib.Bits.{bitOr}
 use lib.Dec.{lit<}
 use Rattle.word.specs.Choice.{choose}
-use Rattle.word.specs.Word.{wordBits, bits}
+use Rattle.word.specs.Word.{wordBits, bits, complement}
 use Rattle.word.proofs.Choice.{choose-either}
-use Rattle.word.proofs.Complement.{complement-lt}
 use Rattle.word.proofs.Rotation.{rotatedLeft-lt, rotatedRight-lt}
-use Rattle.machine.specs.State.{lacBits, ac}
+use Rattle.machine.specs.State.{lacBits, link, ac}
 use Rattle.machine.specs.Instruction.{flag}
-use Rattle.machine.proofs.Lac.{ac-lt, withAc-lt, withoutAc-lt, wrapped-lt}
+use Rattle.machine.proofs.Lac.{withLink-lt, withAc-lt, wrapped-lt}
 use Rattle.operate.specs.Operate.{cleared, linkCleared, complemented, linkComplemented, increased, places, turnedLeft, turnedRight, rotated, changed, switched}
 
 abbrev Narrow : ℕ → Type 0
 Narrow lac = lac < 2 ^ lacBits
 
 pub cleared-lt : (i : ℕ) {lac : ℕ} → Narrow lac → Narrow (cleared i lac)
-cleared-lt i h = choose-either Narrow (flag 4 i) (withoutAc-lt h) h
+cleared-lt i h = choose-either Narrow (flag 4 i) (withAc-lt 0 h) h
 
 pub linkCleared-lt : (i : ℕ) {lac : ℕ} → Narrow lac → Narrow (linkCleared i lac)
-linkCleared-lt i h = choose-either Narrow (flag 5 i) (omega arith) h
+linkCleared-lt i h = choose-either Narrow (flag 5 i) (withLink-lt 0 h) h
 
 pub complemented-lt : (i : ℕ) {lac : ℕ} → Narrow lac → Narrow (complemented i lac)
-complemented-lt i {lac} h = choose-either Narrow (flag 6 i) (withAc-lt h (complement-lt wordBits (ac lac))) h
+complemented-lt i {lac} h = choose-either Narrow (flag 6 i) (withAc-lt (complement wordBits (ac lac)) h) h
 
 pub linkComplemented-lt : (i : ℕ) {lac : ℕ} → Narrow lac → Narrow (linkComplemented i lac)
-linkComplemented-lt i {lac} h = choose-either Narrow (flag 7 i) (wrapped-lt (lac + 2 ^ wordBits)) h
+linkComplemented-lt i {lac} h = choose-either Narrow (flag 7 i) (withLink-lt (complement 1 (link lac)) h) h
 
 -- the sum with bit 11 itself
 bit-added : (b lac : ℕ) → b < 2 → Narrow lac → (lac + b) % 2 ^ lacBits ≡ choose b ((lac + 1) % 2 ^ lacBits) lac
@@ -73,5 +72,5 @@ pub rotated-lt : (i : ℕ) {lac : ℕ} → Narrow lac → Narrow (rotated i lac)
 unfolding rotated
 rotated-lt i h = turnedRight-lt i (turnedLeft-lt i h)
 
-pub switched-lt : (i : ℕ) {switches lac : ℕ} → switches < 2 ^ wordBits → Narrow lac → Narrow (switched i switches lac)
-switched-lt i {switches} {lac} s h = choose-either Narrow (flag 9 i) (withAc-lt h (or-lt wordBits (ac lac) switches (ac-lt lac) s)) h
+pub switched-lt : (i switches : ℕ) {lac : ℕ} → Narrow lac → Narrow (switched i switches lac)
+switched-lt i switches {lac} h = choose-either Narrow (flag 9 i) (withAc-lt (bitOr (ac lac) switches) h) h

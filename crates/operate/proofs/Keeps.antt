@@ -17,6 +17,6 @@ operate-good i {s} g =
     either (on (flag 3 i))
     (either (on (flag 11 i)) (lac-good (cleared-lt i (g .lac)) g)
     (pc-good (skip-lt i (s .lac) (g .pc))
-    (lac-good (switched-lt i (g .switches) (cleared-lt i (g .lac)))
+    (lac-good (switched-lt i (s .switches) (cleared-lt i (g .lac)))
     (run-good (choose-either (λ (x : ℕ). x < 2) (flag 10 i) (lit< tt) (g .run)) g))))
     (lac-good (rotated-lt i (changed-lt i (g .lac))) g)

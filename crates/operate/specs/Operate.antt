@@ -5,18 +5,18 @@ use mathlib.Core.Bool.{Bool, true, false, not, _&&_, _||_}
 use lib.Bits.{bitOr}
 use Rattle.word.specs.Choice.{on, pick, choose}
 use Rattle.word.specs.Word.{wordBits, bits, complement, rotatedLeft, rotatedRight, next}
-use Rattle.machine.specs.State.{State, lacBits, withLac, withPc, withRun, link, ac, withAc, withoutAc}
+use Rattle.machine.specs.State.{State, lacBits, withLac, withPc, withRun, link, ac, withLink, withAc}
 use Rattle.machine.specs.Instruction.{flag}
 
 -- ---- "Op 7, bit 3 = 0", on LAC
 
 -- "Bit 4 clears AC" (in all three groups)
 abbrev pub cleared : ℕ → ℕ → ℕ
-cleared i lac = choose (flag 4 i) (withoutAc lac) lac
+cleared i lac = choose (flag 4 i) (withAc lac 0) lac
 
 -- "bit 5 clears L"
 abbrev pub linkCleared : ℕ → ℕ → ℕ
-linkCleared i lac = choose (flag 5 i) (lac % 2 ^ wordBits) lac
+linkCleared i lac = choose (flag 5 i) (withLink lac 0) lac
 
 -- "then bit 6 complements AC"
 abbrev pub complemented : ℕ → ℕ → ℕ
@@ -24,7 +24,7 @@ complemented i lac = choose (flag 6 i) (withAc lac (complement wordBits (ac lac)
 
 -- "bit 7 complements L"
 abbrev pub linkComplemented : ℕ → ℕ → ℕ
-linkComplemented i lac = choose (flag 7 i) ((lac + 2 ^ wordBits) % 2 ^ lacBits) lac
+linkComplemented i lac = choose (flag 7 i) (withLink lac (complement 1 (link lac))) lac
 
 -- "then bit 11 adds 1 to LAC modulo 8,192"
 abbrev pub increased : ℕ → ℕ → ℕ

@@ -2,9 +2,10 @@
 -- Assumes nothing.
 use mathlib.Core.Path.{_≡_}
 use mathlib.Core.List.{List}
-use Prim.Native.Nat.{ℕ, _/_}
+use Prim.Native.Nat.{ℕ}
+use mathlib.Core.Bool.{Bool, _&&_}
 use lib.ListN.{getD, set}
-use lib.Dec.{eqb}
+use lib.Dec.{leb}
 use Rattle.word.specs.Choice.{pick, choose}
 use Rattle.word.specs.Word.{wordBits, bits, join, next}
 use Rattle.machine.specs.Instruction.{ib, pb, pa}
@@ -17,9 +18,13 @@ address page within = join 7 page within
 unfoldable pub firstAddress : ℕ → ℕ → ℕ
 firstAddress i last = address (choose (pb i) (bits wordBits 0 4 last) 0) (pa i)
 
--- "a first address from 0010 to 0017 has its word increased by 1": these addresses differ in their last octal digit alone
+-- "a first address from 0010 to 0017"
+abbrev pub isIndex : ℕ → Bool
+isIndex a = leb 0o10 a && leb a 0o17
+
+-- "has its word increased by 1"
 unfoldable pub indexed : ℕ → List ℕ → List ℕ
-indexed a memory = pick (eqb (a / 8) 1) (set memory a (next (getD memory a 0))) memory
+indexed a memory = pick (isIndex a) (set memory a (next (getD memory a 0))) memory
 
 -- "If ib = 1: .., then the address becomes the word there"
 unfoldable pub effective : ℕ → ℕ → List ℕ → ℕ

@@ -4,9 +4,9 @@ use Prim.Native.Nat.{ℕ, _+_, _%_, _^_}
 use mathlib.Core.Bool.{true, false}
 use lib.Bits.{bitAnd}
 use lib.Dec.{eqb}
-use Rattle.word.specs.Choice.{choose}
+use Rattle.word.specs.Choice.{pick}
 use Rattle.word.specs.Word.{next}
-use Rattle.machine.specs.State.{State, lacBits, word, stored, withLac, withPc, withMemory, ac, withAc, withoutAc}
+use Rattle.machine.specs.State.{State, lacBits, word, stored, withLac, withPc, withMemory, ac, withAc}
 use Rattle.machine.specs.Instruction.{op}
 use Rattle.reference.specs.Address.{effective, afterIndexing}
 
@@ -20,11 +20,11 @@ addTo e s = withLac ((s .lac + word e s) % 2 ^ lacBits) s
 
 -- "2: increase M[e]; if it is now 0, PC + 1"
 abbrev pub incrementAndSkip : ℕ → State → State
-incrementAndSkip e s = withPc (choose (next (word e s)) (s .pc) (next (s .pc))) (stored e (next (word e s)) s)
+incrementAndSkip e s = withPc (pick (eqb (next (word e s)) 0) (next (s .pc)) (s .pc)) (stored e (next (word e s)) s)
 
 -- "3: M[e] = AC, then AC = 0"
 abbrev pub deposit : ℕ → State → State
-deposit e s = withLac (withoutAc (s .lac)) (stored e (ac (s .lac)) s)
+deposit e s = withLac (withAc (s .lac) 0) (stored e (ac (s .lac)) s)
 
 -- "4: M[e] = PC, then PC = e + 1"
 abbrev pub callAt : ℕ → State → State

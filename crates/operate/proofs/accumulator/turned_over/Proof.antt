@@ -1,5 +1,5 @@
 -- `operate::turned_over`: each arm has what the instruction with these bits alone complements.
-use mathlib.Core.Path.{_∙_}
+use mathlib.Core.Path.{refl}
 use native.Mathlib.Omega.{arith}
 use lib.Bits.{xor-zero-r}
 use Rattle.operate.proofs.Changes.{complemented-alike}
@@ -14,10 +14,10 @@ returns-2 : tie.Need-returns-2
 returns-2 c = λ lac h. complemented-alike (c .before .args .i) 0o20 lac (c .match .keys2) (xor-link h)
 
 returns-3 : tie.Need-returns-3
-returns-3 c = λ lac h. complemented-alike (c .before .args .i) 0o40 lac (c .match .keys3) (xor-ac lac ∙ omega arith)
+returns-3 c = λ lac h. complemented-alike (c .before .args .i) 0o40 lac (c .match .keys3) (xor-ac lac)
 
 returns-4 : tie.Need-returns-4
-returns-4 c = λ lac h. complemented-alike (c .before .args .i) 0o60 lac (omega (arith, c .match .rest)) (xor-lac h ∙ omega arith)
+returns-4 c = λ lac h. complemented-alike (c .before .args .i) 0o60 lac (omega (arith, c .match .rest)) (xor-lac h refl)
 
 pub turned-over-spec : {M : Type 1} → statement M
 turned-over-spec = tie.close (tie.spec returns returns-2 returns-3 returns-4)

@@ -9,8 +9,8 @@ use borrow.Author.Tests.{leb-true, leb-false, eq-eqb, ne-eqb}
 use lib.Dec.{eqb, leb}
 use lib.ListN.{getD}
 use Rattle.word.specs.Word.{wordBits, bits}
-use Rattle.word.specs.Choice.{on, pick, choose}
-use Rattle.word.proofs.Choice.{pick-either, choose-either}
+use Rattle.word.specs.Choice.{on, pick}
+use Rattle.word.proofs.Choice.{pick-either}
 use Rattle.word.proofs.Next.{next-lt}
 use Rattle.state.specs.Acceptable.{Acceptable}
 use Rattle.state.proofs.Accepted.{store-acceptable}
@@ -20,8 +20,8 @@ use Rattle.reference.specs.Address.{firstAddress, isIndex, indexed, effe
 pub pa-lt : (i : ℕ) → pa i < 2 ^ 7
 pa-lt i = omega arith
 
-pub page-lt : (i last : ℕ) → choose (pb i) (bits wordBits 0 4 last) 0 < 2 ^ 5
-page-lt i last = choose-either (λ (n : ℕ). n < 2 ^ 5) (pb i) (omega arith) (omega arith)
+pub page-lt : (i last : ℕ) → pick (on (pb i)) (bits wordBits 0 4 last) 0 < 2 ^ 5
+page-lt i last = pick-either (λ (n : ℕ). n < 2 ^ 5) (on (pb i)) (omega arith) (omega arith)
 
 pub firstAddress-lt : (i last : ℕ) → firstAddress i last < 2 ^ wordBits
 unfolding firstAddress
@@ -44,13 +44,13 @@ indexed-acceptable a {memory} m =
 pub effective-lt : (i last : ℕ) {memory : List ℕ} → Acceptable memory → effective i last memory < 2 ^ wordBits
 unfolding effective
 effective-lt i last m =
-    choose-either (λ (n : ℕ). n < 2 ^ wordBits) (ib i)
+    pick-either (λ (n : ℕ). n < 2 ^ wordBits) (on (ib i))
     (indexed-acceptable (firstAddress i last) m .words (firstAddress i last))
     (firstAddress-lt i last)
 
 pub afterIndexing-acceptable : (i last : ℕ) {memory : List ℕ} → Acceptable memory → Acceptable (afterIndexing i last memory)
 unfolding afterIndexing
-afterIndexing-acceptable i last m = choose-either Acceptable (ib i) (indexed-acceptable (firstAddress i last) m) m
+afterIndexing-acceptable i last m = pick-either Acceptable (on (ib i)) (indexed-acceptable (firstAddress i last) m) m
 
 module _ (i last first : ℕ) (before : List ℕ) (found : first ≡ firstAddress i last) where
   -- ib = 1: the word at the first address, after auto-indexing

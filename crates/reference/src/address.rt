@@ -3,7 +3,7 @@ use machine::memory::load;
 use machine::memory::store;
 ghost use mathlib.Core.Path.{_≡_};
 ghost use Prim.Native.Nat.{_^_, _<_};
-ghost use Rattle.word.specs.Choice.{choose};
+ghost use Rattle.word.specs.Choice.{on, pick};
 ghost use Rattle.word.specs.Word.{wordBits, bits};
 ghost use Rattle.state.specs.Acceptable.{Acceptable};
 ghost use Rattle.machine.specs.Instruction.{ib, pb, pa};
@@ -28,7 +28,7 @@ fn joined(page: PageNumber, within: PageAddress) -> u64
 
 // The page of an instruction that was fetched from `last`: page 0, or the page of `last` itself.
 fn page(i: u64, last: u64) -> PageNumber
-    ensures { λ r. ⌜ r .0 ≡ choose (pb i) (bits wordBits 0 4 last) 0 ⌝ }
+    ensures { λ r. ⌜ r .0 ≡ pick (on (pb i)) (bits wordBits 0 4 last) 0 ⌝ }
 {
     if i / CURRENT % 2 != 0 {
         PageNumber(last / 128 % 32)

@@ -9,7 +9,7 @@ use lib.ListN.{length, getD, set}
 use Rattle.laws.proofs.Tests.{by-case}
 use Rattle.word.specs.Choice.{on}
 use Rattle.word.specs.Word.{next}
-use Rattle.word.proofs.Choice.{pick-either, choose-either}
+use Rattle.word.proofs.Choice.{pick-either}
 use Rattle.machine.specs.State.{State, word, withPc, withMemory, ac}
 use Rattle.machine.specs.Instruction.{op, flag}
 use Rattle.machine.specs.Interrupt.{ion, iof, interruptTest, inputOutput}
@@ -47,7 +47,7 @@ module _ (before : List ℕ) (n : ℕ) where
   indexing-few : (i last : ℕ) (memory : List ℕ) → Few before n memory → Few before (n + wordLineBytes) (afterIndexing i last memory)
   unfolding afterIndexing
   indexing-few i last memory h =
-      choose-either (Few before (n + wordLineBytes)) (flag 3 i) (indexed-few (firstAddress i last) memory h) (more memory h)
+      pick-either (Few before (n + wordLineBytes)) (on (flag 3 i)) (indexed-few (firstAddress i last) memory h) (more memory h)
 
   operation-few : (k e : ℕ) (s : State) → FewIn before n s → FewIn before (n + wordLineBytes) (operation k e s)
   unfolding operation

@@ -6,9 +6,9 @@ use Prim.Native.Nat.{ℕ, zero, suc, _+_, _%_, _^_, _<_}
 use native.Mathlib.Omega.{arith}
 use lib.Bits.{bitOr}
 use lib.Dec.{lit<}
-use Rattle.word.specs.Choice.{choose}
+use Rattle.word.specs.Choice.{on, pick}
 use Rattle.word.specs.Word.{wordBits, bits, complement}
-use Rattle.word.proofs.Choice.{choose-either}
+use Rattle.word.proofs.Choice.{pick-either}
 use Rattle.word.proofs.Rotation.{rotatedLeft-lt, rotatedRight-lt}
 use Rattle.machine.specs.State.{lacBits, link, ac}
 use Rattle.machine.specs.Instruction.{flag}
@@ -19,19 +19,19 @@ abbrev Narrow : ℕ → Type 0
 Narrow lac = lac < 2 ^ lacBits
 
 pub cleared-lt : (i : ℕ) {lac : ℕ} → Narrow lac → Narrow (cleared i lac)
-cleared-lt i h = choose-either Narrow (flag 4 i) (withAc-lt 0 h) h
+cleared-lt i h = pick-either Narrow (on (flag 4 i)) (withAc-lt 0 h) h
 
 pub linkCleared-lt : (i : ℕ) {lac : ℕ} → Narrow lac → Narrow (linkCleared i lac)
-linkCleared-lt i h = choose-either Narrow (flag 5 i) (withLink-lt 0 h) h
+linkCleared-lt i h = pick-either Narrow (on (flag 5 i)) (withLink-lt 0 h) h
 
 pub complemented-lt : (i : ℕ) {lac : ℕ} → Narrow lac → Narrow (complemented i lac)
-complemented-lt i {lac} h = choose-either Narrow (flag 6 i) (withAc-lt (complement wordBits (ac lac)) h) h
+complemented-lt i {lac} h = pick-either Narrow (on (flag 6 i)) (withAc-lt (complement wordBits (ac lac)) h) h
 
 pub linkComplemented-lt : (i : ℕ) {lac : ℕ} → Narrow lac → Narrow (linkComplemented i lac)
-linkComplemented-lt i {lac} h = choose-either Narrow (flag 7 i) (withLink-lt (complement 1 (link lac)) h) h
+linkComplemented-lt i {lac} h = pick-either Narrow (on (flag 7 i)) (withLink-lt (complement 1 (link lac)) h) h
 
 -- the sum with bit 11 itself
-bit-added : (b lac : ℕ) → b < 2 → Narrow lac → (lac + b) % 2 ^ lacBits ≡ choose b ((lac + 1) % 2 ^ lacBits) lac
+bit-added : (b lac : ℕ) → b < 2 → Narrow lac → (lac + b) % 2 ^ lacBits ≡ pick (on b) ((lac + 1) % 2 ^ lacBits) lac
 bit-added zero lac h n = omega arith
 bit-added (suc zero) lac h n = refl
 bit-added (suc (suc b)) lac h n = absurd (omega arith)
@@ -40,7 +40,7 @@ pub increased-is : (i : ℕ) {lac : ℕ} → Narrow lac → (lac + flag 11 i) % 
 increased-is i {lac} n = bit-added (flag 11 i) lac (omega arith) n
 
 increased-lt : (i : ℕ) {lac : ℕ} → Narrow lac → Narrow (increased i lac)
-increased-lt i {lac} h = choose-either Narrow (flag 11 i) (wrapped-lt (lac + 1)) h
+increased-lt i {lac} h = pick-either Narrow (on (flag 11 i)) (wrapped-lt (lac + 1)) h
 
 -- two instructions with the same bits 4 and 5 clear the same, and two with the same bits 6 and 7 complement the same: the code's arm is tied
 -- to the instruction that has no other bit
@@ -63,14 +63,14 @@ unfolding changed
 changed-lt i h = increased-lt i (linkComplemented-lt i (complemented-lt i (linkCleared-lt i (cleared-lt i h))))
 
 turnedLeft-lt : (i : ℕ) {lac : ℕ} → Narrow lac → Narrow (turnedLeft i lac)
-turnedLeft-lt i h = choose-either Narrow (flag 9 i) (rotatedLeft-lt lacBits (lit< tt) (places i) h) h
+turnedLeft-lt i h = pick-either Narrow (on (flag 9 i)) (rotatedLeft-lt lacBits (lit< tt) (places i) h) h
 
 turnedRight-lt : (i : ℕ) {lac : ℕ} → Narrow lac → Narrow (turnedRight i lac)
-turnedRight-lt i h = choose-either Narrow (flag 8 i) (rotatedRight-lt lacBits (lit< tt) (places i) h) h
+turnedRight-lt i h = pick-either Narrow (on (flag 8 i)) (rotatedRight-lt lacBits (lit< tt) (places i) h) h
 
 pub rotated-lt : (i : ℕ) {lac : ℕ} → Narrow lac → Narrow (rotated i lac)
 unfolding rotated
 rotated-lt i h = turnedRight-lt i (turnedLeft-lt i h)
 
 pub switched-lt : (i switches : ℕ) {lac : ℕ} → Narrow lac → Narrow (switched i switches lac)
-switched-lt i switches {lac} h = choose-either Narrow (flag 9 i) (withAc-lt (bitOr (ac lac) switches) h) h
+switched-lt i switches {lac} h = pick-either Narrow (on (flag 9 i)) (withAc-lt (bitOr (ac lac) switches) h) h

@@ -7,7 +7,7 @@ use machine::Processor;
 use machine::interrupt::interrupt_test;
 ghost use mathlib.Core.Path.{_≡_};
 ghost use Prim.Native.Nat.{_^_, _<_};
-ghost use Rattle.word.specs.Choice.{choose};
+ghost use Rattle.word.specs.Choice.{on, pick};
 ghost use Rattle.word.specs.Word.{wordBits};
 ghost use Rattle.machine.specs.Instruction.{flag};
 ghost use Rattle.machine.specs.State.{at, lacBits, Good};
@@ -34,7 +34,7 @@ fn or_switches(i: u64, switches: u64, lac: u64) -> u64
 
 // Bit 10 sets RUN to 0.
 fn halt(i: u64, run: u64) -> u64
-    ensures { λ r. ⌜ r ≡ choose (flag 10 i) 0 run ⌝ }
+    ensures { λ r. ⌜ r ≡ pick (on (flag 10 i)) 0 run ⌝ }
 {
     if i / HLT % 2 != 0 { 0 } else { run }
 }

@@ -2,7 +2,7 @@
 -- Assumes nothing.
 use Prim.Native.Nat.{ℕ, zero, suc, _+_}
 use mathlib.Core.Bool.{true, false}
-use Rattle.word.specs.Choice.{on, choose}
+use Rattle.word.specs.Choice.{on, pick}
 use Rattle.state.specs.declared.Reason.{Reason}
 use Rattle.state.specs.declared.Reason.the-variants.{Halted, Spent}
 use Rattle.machine.specs.State.{State}
@@ -16,7 +16,7 @@ pub record Run : Type 0 where
 
 -- "its reason, `halted` if RUN is 0 at the end, else `spent`"
 abbrev pub reasonOf : State → Reason
-reasonOf s = choose (s .run) Spent Halted
+reasonOf s = pick (on (s .run)) Spent Halted
 
 abbrev pub ended : ℕ → State → Run
 ended done s = record { state = s; steps = done; reason = reasonOf s }

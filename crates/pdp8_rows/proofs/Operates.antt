@@ -6,9 +6,9 @@ use mathlib.Core.List.{List, _∷_}
 use Prim.Native.Nat.{ℕ, _+_, _%_, _^_, _<_}
 use lib.Dec.{lit<}
 use lib.ListN.{drop}
-use Rattle.word.specs.Choice.{on, pick, choose}
+use Rattle.word.specs.Choice.{on, pick}
 use Rattle.word.specs.Word.{wordBits, complement, rotatedLeft, rotatedRight}
-use Rattle.word.proofs.Choice.{choose-either}
+use Rattle.word.proofs.Choice.{pick-either}
 use Rattle.word.proofs.Complement.{complement-lt}
 use Rattle.word.proofs.Rotation.{rotatedLeft-lt, rotatedRight-lt}
 use Rattle.machine.specs.State.{State, Good, lacBits, withLac, ac, withAc, withoutAc}
@@ -34,10 +34,10 @@ module _ {o : State} {w : Work} (g : Good o) (f : Fit w) where
 
   -- LAC rotated by n places: left, and after it right
   abbrev left : ℕ → ℕ → ℕ
-  left n x = choose (flag 9 i) (rotatedLeft lacBits n x) x
+  left n x = pick (on (flag 9 i)) (rotatedLeft lacBits n x) x
 
   abbrev turned : ℕ → ℕ → ℕ
-  turned n x = choose (flag 8 i) (rotatedRight lacBits n (left n x)) (left n x)
+  turned n x = pick (on (flag 8 i)) (rotatedRight lacBits n (left n x)) (left n x)
 
   -- LAC after each change of group 1
   abbrev lac₁ : ℕ
@@ -67,7 +67,7 @@ module _ {o : State} {w : Work} (g : Good o) (f : Fit w) where
   ends-group3 = moved lac-is (o .lac) (withoutAc (o .lac)) (on (flag 4 i)) refl (ap lac-is (ac-cleared (o .lac))) (ends-lac (cleared i (o .lac)))
 
   left-lt : (n : ℕ) {x : ℕ} → x < 2 ^ lacBits → left n x < 2 ^ lacBits
-  left-lt n h = choose-either (λ (z : ℕ). z < 2 ^ lacBits) (flag 9 i) (rotatedLeft-lt lacBits (lit< tt) n h) h
+  left-lt n h = pick-either (λ (z : ℕ). z < 2 ^ lacBits) (on (flag 9 i)) (rotatedLeft-lt lacBits (lit< tt) n h) h
 
   -- two rows rotate by n places, and the third goes to the interrupt test
   turns : (n : ℕ) (m : ℕ) (rs : List Row) (x : ℕ) → x < 2 ^ lacBits → drop m rs ≡ rows·interrupt

@@ -8,9 +8,9 @@ use lib.Bits.{bitAnd, and-le-l}
 use lib.Dec.{eqb}
 use lib.ListN.{getD, set}
 use lib.Seq.{getD-set-same}
-use Rattle.word.specs.Choice.{pick}
+use Rattle.word.specs.Choice.{on, pick}
 use Rattle.word.specs.Word.{wordBits, withBits, next}
-use Rattle.word.proofs.Choice.{choose-either, on-bit}
+use Rattle.word.proofs.Choice.{pick-either, on-bit}
 use Rattle.word.proofs.Next.{next-lt}
 use Rattle.machine.specs.State.{State, Good, lacBits, word, stored, withLac, withPc, ac}
 use Rattle.machine.specs.Instruction.{op}
@@ -80,7 +80,7 @@ module _ {o : State} {w : Work} (g : Good o) (f : Fit w) where
       (on-bit (eqb (getD (set (o .memory) (w .eadd) increased) (w .eadd % 2 ^ wordBits) 0) 0) ∙ ap (λ (v : ℕ). eqb v 0) read-back) refl
       (seen (ap (λ (n : ℕ). held (withPc n (stored (w .eadd) increased o)) w) (pick-not (eqb increased 0) (o .pc) (next (o .pc))))
       (jumps refl
-      (ends-interrupt f (choose-either (λ (n : ℕ). n < 2 ^ wordBits) increased (g .pc) (next-lt (o .pc))) (g .enable) (g .request)))))
+      (ends-interrupt f (pick-either (λ (n : ℕ). n < 2 ^ wordBits) (on increased) (g .pc) (next-lt (o .pc))) (g .enable) (g .request)))))
 
   pub ends-execute : Ends rows·execute (held o w) (interruptTest (operation (op (w .i)) (w .eadd) o))
   unfolding operation

@@ -7,7 +7,7 @@ use Prim.Native.Nat.{ℕ, _^_, _<_}
 use native.Mathlib.Omega.{arith}
 use lib.Bits.{bitOr, or-lt}
 use lib.ListN.{drop}
-use Rattle.word.specs.Choice.{on, pick, choose, bit}
+use Rattle.word.specs.Choice.{on, pick, bit}
 use Rattle.word.specs.Word.{wordBits, bits, next}
 use Rattle.word.proofs.Choice.{pick-either, on-bit, bit-lt}
 use Rattle.word.proofs.Next.{next-lt}
@@ -37,7 +37,7 @@ module _ {o : State} {w : Work} (g : Good o) (f : Fit w) where
   abbrev decided : Bool → State
   decided b =
       withPc (pick b (next (o .pc)) (o .pc))
-      (withLac (switched i (o .switches) (cleared i lac)) (withRun (choose (flag 10 i) 0 (o .run)) o))
+      (withLac (switched i (o .switches) (cleared i lac)) (withRun (pick (on (flag 10 i)) 0 (o .run)) o))
 
   -- states with the skip so far; then with PC counted and another LAC; then with another RUN
   abbrev skip-is : Bool → rows.State

@@ -9,7 +9,8 @@ ghost use mathlib.Core.Path.{_≡_};
 ghost use Rattle.word.specs.Choice.{on, pick};
 ghost use Rattle.state.specs.Checks.{checkState};
 ghost use Rattle.state.specs.declared.Reason.the-variants.{Halted, Spent};
-ghost use Rattle.machine.specs.State.{start, values, widths, narrowed, Narrow, Good};
+ghost use Rattle.machine.specs.State.{start, values, widths, Good};
+ghost use Rattle.machine.specs.Processor.{narrowed, Narrow};
 ghost use Rattle.pdp8.specs.Run.{run};
 ghost use Rattle.emulator.specs.Emulate.{report, finished as finishedRun, emulate as emulation};
 

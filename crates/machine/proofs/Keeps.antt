@@ -11,7 +11,8 @@ use Rattle.word.proofs.Choice.{pick-either}
 use Rattle.state.specs.Acceptable.{Acceptable}
 use Rattle.state.proofs.Accepted.{store-acceptable}
 use Rattle.machine.specs.declared.Processor.{Processor}
-use Rattle.machine.specs.State.{State, at, Good, Narrow, stored, withLac, withPc, withRun, withEnable, withMemory, lacBits}
+use Rattle.machine.specs.State.{State, Good, stored, withLac, withPc, withRun, withEnable, withMemory, lacBits}
+use Rattle.machine.specs.Processor.{at, Narrow}
 use Rattle.machine.specs.Interrupt.{interruptTest, inputOutput, ion, iof}
 
 pub lac-good : {s : State} {x : ℕ} → x < 2 ^ lacBits → Good s → Good (withLac x s)

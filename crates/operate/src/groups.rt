@@ -10,7 +10,8 @@ ghost use Prim.Native.Nat.{_^_, _<_};
 ghost use Rattle.word.specs.Choice.{on, pick};
 ghost use Rattle.word.specs.Word.{wordBits};
 ghost use Rattle.machine.specs.Instruction.{flag};
-ghost use Rattle.machine.specs.State.{at, lacBits, Good};
+ghost use Rattle.machine.specs.State.{lacBits, Good};
+ghost use Rattle.machine.specs.Processor.{at};
 ghost use Rattle.machine.specs.Interrupt.{interruptTest};
 ghost use Rattle.operate.specs.Operate.{switched, group2, group3, operate};
 

@@ -14,7 +14,7 @@ use Rattle.state.specs.declared.Reason.{Reason}
 use Rattle.state.specs.declared.Reason.the-variants.{Halted, Spent}
 use Rattle.machine.specs.State.{State, Good}
 use Rattle.pdp8.specs.Step.{step}
-use Rattle.pdp8.specs.Run.{Run, reasonOf, ended, runFrom, run, after, following}
+use Rattle.pdp8.specs.Run.{Run, reasonOf, ended, runFrom, run}
 use Rattle.pdp8.proofs.Keeps.{step-good}
 
 -- ---- the loop
@@ -78,6 +78,15 @@ reason-from (suc left) done s =
     (λ e. rw (run-halted (suc left) done s e))
 
 -- ---- whole runs
+
+-- the state after n steps
+unfoldable pub after : ℕ → State → State
+after zero s = s
+after (suc n) s = after n (step s)
+
+-- a run that follows `done` steps of an earlier one
+abbrev pub following : ℕ → Run → Run
+following done r = record { state = r .state; steps = done + r .steps; reason = r .reason }
 
 -- RUN is 0 at entry: `halted`, 0 steps, at every budget
 pub halted-at-entry : (budget : ℕ) (s : State) → s .run ≡ 0 → run budget s ≡ record { state = s; steps = 0; reason = Halted }

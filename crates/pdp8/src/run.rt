@@ -4,7 +4,8 @@ use machine::Processor;
 ghost use mathlib.Core.Path.{_≡_};
 ghost use Prim.Native.Nat.{_<_};
 ghost use Rattle.word.specs.Choice.{on, pick};
-ghost use Rattle.machine.specs.State.{at, Good};
+ghost use Rattle.machine.specs.State.{Good};
+ghost use Rattle.machine.specs.Processor.{at};
 ghost use Rattle.pdp8.specs.Run.{ended, run as runOf};
 
 // The registers that a run leaves, and its steps.

@@ -15,7 +15,8 @@ use Rattle.word.proofs.Next.{next-lt}
 use Rattle.state.specs.Acceptable.{Acceptable}
 use Rattle.state.proofs.Accepted.{store-acceptable}
 use Rattle.machine.specs.Instruction.{ib, pb, pa}
-use Rattle.reference.specs.Address.{firstAddress, isIndex, indexed, effective, afterIndexing, Addressed}
+use Rattle.reference.specs.Address.{firstAddress, isIndex, indexed, effective, afterIndexing}
+use Rattle.reference.specs.Addressed.{Addressed}
 
 pub pa-lt : (i : ℕ) → pa i < 2 ^ 7
 pa-lt i = omega arith

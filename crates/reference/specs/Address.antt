@@ -1,6 +1,5 @@
 -- "Address": the address that ops 0 to 5 work on, and the memory that auto-indexing leaves.
 -- Assumes nothing.
-use mathlib.Core.Path.{_≡_}
 use mathlib.Core.List.{List}
 use Prim.Native.Nat.{ℕ}
 use mathlib.Core.Bool.{Bool, _&&_}
@@ -33,8 +32,3 @@ effective i last memory = pick (on (ib i)) (getD (indexed (firstAddress i last) 
 -- the memory after the address has been worked out
 unfoldable pub afterIndexing : ℕ → ℕ → List ℕ → List ℕ
 afterIndexing i last memory = pick (on (ib i)) (indexed (firstAddress i last) memory) memory
-
--- what working the address out yields: the address, and the memory that it leaves
-pub record Addressed (i last : ℕ) (before after : List ℕ) (e : ℕ) : Type 0 where
-  pub address : e ≡ effective i last before
-  pub memory : after ≡ afterIndexing i last before

@@ -7,7 +7,8 @@ ghost use Rattle.word.specs.Choice.{on, pick};
 ghost use Rattle.word.specs.Word.{wordBits, bits};
 ghost use Rattle.state.specs.Acceptable.{Acceptable};
 ghost use Rattle.machine.specs.Instruction.{ib, pb, pa};
-ghost use Rattle.reference.specs.Address.{address, firstAddress, indexed, Addressed};
+ghost use Rattle.reference.specs.Address.{address, firstAddress, indexed};
+ghost use Rattle.reference.specs.Addressed.{Addressed};
 
 // Bit 4, pb.
 const CURRENT: u64 = 0o200;

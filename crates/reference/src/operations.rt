@@ -6,7 +6,8 @@ use machine::memory::store;
 ghost use mathlib.Core.Path.{_≡_};
 ghost use Prim.Native.Nat.{_^_, _<_};
 ghost use Rattle.word.specs.Word.{wordBits};
-ghost use Rattle.machine.specs.State.{at, Good};
+ghost use Rattle.machine.specs.State.{Good};
+ghost use Rattle.machine.specs.Processor.{at};
 ghost use Rattle.reference.specs.Reference.{andTo, addTo, incrementAndSkip, deposit, callAt, jumpTo};
 ghost use Rattle.machine.specs.Interrupt.{interruptTest};
 

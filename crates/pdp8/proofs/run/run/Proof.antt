@@ -5,7 +5,8 @@ use borrow.Author.Needs.{needs}
 use mathlib.Core.Path.{_≡_, sym, ap, _∙_, subst}
 use Prim.Native.Nat.{ℕ, _+_, _-_, _≤_}
 use Rattle.word.specs.Choice.{on, pick}
-use Rattle.machine.specs.State.{State, at, Good}
+use Rattle.machine.specs.State.{State, Good}
+use Rattle.machine.specs.Processor.{at}
 use Rattle.pdp8.specs.Run.{runFrom, run}
 use Rattle.pdp8.proofs.Keeps.{step-good}
 use Rattle.pdp8.proofs.Runs.{run-on, below-bound, run-bound}

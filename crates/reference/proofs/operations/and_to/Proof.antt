@@ -3,7 +3,8 @@ use mathlib.Core.Path.{sym, ap, ap₂, _∙_}
 use Prim.Native.Nat.{ℕ, _%_, _^_, _<_}
 use denote.Ref.{now}
 use Rattle.word.specs.Word.{wordBits}
-use Rattle.machine.specs.State.{at, withLac, withAc}
+use Rattle.machine.specs.State.{withLac, withAc}
+use Rattle.machine.specs.Processor.{at}
 use Rattle.machine.specs.Interrupt.{interruptTest}
 use lib.Bits.{bitAnd, and-le-l}
 use native.Mathlib.Omega.{arith}

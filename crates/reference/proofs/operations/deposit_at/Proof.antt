@@ -2,7 +2,8 @@
 use mathlib.Core.Path.{sym, ap, ap₂, _∙_}
 use Prim.Native.Nat.{ℕ, _*_, _/_}
 use denote.Ref.{now}
-use Rattle.machine.specs.State.{at, stored, withLac, withMemory}
+use Rattle.machine.specs.State.{stored, withLac, withMemory}
+use Rattle.machine.specs.Processor.{at}
 use Rattle.machine.specs.Interrupt.{interruptTest}
 use mathlib.Core.List.{List}
 use Rattle.machine.proofs.Lac.{ac-is, ac-cleared}

@@ -13,7 +13,7 @@ use Rattle.word.proofs.Rotation.{rotatedLeft-lt, rotatedRight-lt}
 use Rattle.machine.specs.State.{lacBits, link, ac}
 use Rattle.machine.specs.Instruction.{flag}
 use Rattle.machine.proofs.Lac.{withLink-lt, withAc-lt, wrapped-lt}
-use Rattle.operate.specs.Operate.{cleared, linkCleared, complemented, linkComplemented, increased, places, turnedLeft, turnedRight, rotated, changed, switched}
+use Rattle.operate.specs.Operate.{cleared, linkCleared, complemented, linkComplemented, increased, places, leftRotated, rightRotated, rotated, changed, switched}
 
 abbrev Narrow : ℕ → Type 0
 Narrow lac = lac < 2 ^ lacBits
@@ -62,15 +62,15 @@ pub changed-lt : (i : ℕ) {lac : ℕ} → Narrow lac → Narrow (changed i lac)
 unfolding changed
 changed-lt i h = increased-lt i (linkComplemented-lt i (complemented-lt i (linkCleared-lt i (cleared-lt i h))))
 
-turnedLeft-lt : (i : ℕ) {lac : ℕ} → Narrow lac → Narrow (turnedLeft i lac)
-turnedLeft-lt i h = pick-either Narrow (on (flag 9 i)) (rotatedLeft-lt lacBits (lit< tt) (places i) h) h
+leftRotated-lt : (i : ℕ) {lac : ℕ} → Narrow lac → Narrow (leftRotated i lac)
+leftRotated-lt i h = pick-either Narrow (on (flag 9 i)) (rotatedLeft-lt lacBits (lit< tt) (places i) h) h
 
-turnedRight-lt : (i : ℕ) {lac : ℕ} → Narrow lac → Narrow (turnedRight i lac)
-turnedRight-lt i h = pick-either Narrow (on (flag 8 i)) (rotatedRight-lt lacBits (lit< tt) (places i) h) h
+rightRotated-lt : (i : ℕ) {lac : ℕ} → Narrow lac → Narrow (rightRotated i lac)
+rightRotated-lt i h = pick-either Narrow (on (flag 8 i)) (rotatedRight-lt lacBits (lit< tt) (places i) h) h
 
 pub rotated-lt : (i : ℕ) {lac : ℕ} → Narrow lac → Narrow (rotated i lac)
 unfolding rotated
-rotated-lt i h = turnedRight-lt i (turnedLeft-lt i h)
+rotated-lt i h = rightRotated-lt i (leftRotated-lt i h)
 
 pub switched-lt : (i switches : ℕ) {lac : ℕ} → Narrow lac → Narrow (switched i switches lac)
 switched-lt i switches {lac} h = pick-either Narrow (on (flag 9 i)) (withAc-lt (bitOr (ac lac) switches) h) h

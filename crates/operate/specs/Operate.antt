@@ -35,15 +35,15 @@ abbrev pub places : ℕ → ℕ
 places i = pick (on (flag 10 i)) 2 1
 
 -- "then bit 9 rotates LAC left"
-abbrev pub turnedLeft : ℕ → ℕ → ℕ
-turnedLeft i lac = pick (on (flag 9 i)) (rotatedLeft lacBits (places i) lac) lac
+abbrev pub leftRotated : ℕ → ℕ → ℕ
+leftRotated i lac = pick (on (flag 9 i)) (rotatedLeft lacBits (places i) lac) lac
 
 -- "and after it bit 8 rotates it right"
-abbrev pub turnedRight : ℕ → ℕ → ℕ
-turnedRight i lac = pick (on (flag 8 i)) (rotatedRight lacBits (places i) lac) lac
+abbrev pub rightRotated : ℕ → ℕ → ℕ
+rightRotated i lac = pick (on (flag 8 i)) (rotatedRight lacBits (places i) lac) lac
 
 unfoldable pub rotated : ℕ → ℕ → ℕ
-rotated i lac = turnedRight i (turnedLeft i lac)
+rotated i lac = rightRotated i (leftRotated i lac)
 
 unfoldable pub changed : ℕ → ℕ → ℕ
 changed i lac = increased i (linkComplemented i (complemented i (linkCleared i (cleared i lac))))

@@ -5,6 +5,7 @@ use crate::rotate::increase_and_rotate;
 use crate::skip::skip;
 use machine::Processor;
 use machine::interrupt::interrupt_test;
+use word::WORD_VALUES;
 ghost use mathlib.Core.Path.{_≡_};
 ghost use Prim.Native.Nat.{_^_, _<_};
 ghost use Rattle.word.specs.Choice.{on, pick};
@@ -27,7 +28,7 @@ fn or_switches(i: u64, switches: u64, lac: u64) -> u64
     ensures { λ r. ⌜ r ≡ switched i switches lac ⌝ }
 {
     if i / OSR % 2 != 0 {
-        lac / 4096 * 4096 + (lac % 4096 | switches)
+        lac / WORD_VALUES * WORD_VALUES + (lac % WORD_VALUES | switches)
     } else {
         lac
     }

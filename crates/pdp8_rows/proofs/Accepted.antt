@@ -1,6 +1,6 @@
--- The reader accepts the shipped text, and these are its registers and rows: the definition of reading, computed. They are within their limit.
+-- The reader accepts the shipped text, and the tree is what it reads: the definition of reading, computed. So the shipped description is the tree, and its rows are within their limit.
 -- Assumes nothing.
-use mathlib.Core.Path.{_≡_, refl}
+use mathlib.Core.Path.{_≡_, refl, sym, ap, _∙_, subst}
 use Prim.Native.Nat.{_≤_}
 use lib.Dec.{lit≤}
 use lib.ListN.{length}
@@ -16,19 +16,27 @@ use Rattle.code.specs.Readings.{limited, ofReference, ofConstant, notOf, closed
 use Rattle.grammar.specs.Grammar.{level}
 use Rattle.expression.specs.Expression.{whole, expression, ofName, ofAddress, memoryAt, destination}
 use Rattle.declaration.specs.Lines.{addRegister, regLine, addLabel, atLine}
+use Rattle.declaration.specs.Rows.{Description}
 use Rattle.targets.specs.Targets.{passes}
 use Rattle.row.specs.Lines.{addRow, doRow, withRow, doLine, goRow, goLine}
 use Rattle.description.specs.Description.{accepted, finished, readLines, readText}
 use Rattle.line.specs.Line.{readLine}
-use Rattle.pdp8_rows.specs.Text.{shippedText}
-use Rattle.pdp8_rows.specs.Shipped.{mostShippedRows, shipped}
+use Rattle.pdp8_rows.specs.Text.{shippedText, described, shipped, mostShippedRows}
+use Rattle.pdp8_rows.proofs.Tree.{tree}
 
-pub shipped-accepted : readText shippedText ≡ accepted shipped
+pub shipped-accepted : readText shippedText ≡ accepted tree
 unfolding run runEnd same numberAt decimalAt markedAt shortestFrom ofDecimal constantAt lines field hasFields isName find findIn operatorRow tokenEnd
     operatorAt operatorEnd secondBit firstBit spanAt partOf registerAt referenceAt limited ofReference ofConstant notOf closed turned joined level whole
     expression ofName ofAddress memoryAt destination addRegister regLine addRow doRow withRow doLine passes goRow goLine addLabel atLine readLine finished
     readLines readText shippedText
 shipped-accepted = refl
 
+pub shipped-is : shipped ≡ tree
+unfolding shipped
+shipped-is = ap described shipped-accepted
+
+pub shipped-read : readText shippedText ≡ accepted shipped
+shipped-read = shipped-accepted ∙ ap accepted (sym shipped-is)
+
 pub shipped-short : length (shipped .rows) ≤ mostShippedRows
-shipped-short = lit≤ tt
+shipped-short = subst (λ (d : Description). length (d .rows) ≤ mostShippedRows) (sym shipped-is) (lit≤ tt)

@@ -4,6 +4,7 @@ use mathlib.Core.Path.{_≡_, refl, ap, _∙_}
 use mathlib.Core.Bool.{Bool, true, false}
 use mathlib.Core.List.{List}
 use Prim.Native.Nat.{ℕ, _/_, _%_, _^_, _<_}
+use native.Mathlib.Nat.{mod-eq-of-lt}
 use native.Mathlib.Omega.{arith}
 use lib.Dec.{eqb}
 use lib.ListN.{getD, set}
@@ -18,10 +19,10 @@ use Rattle.machine.proofs.Keeps.{stored-good}
 use Rattle.reference.specs.Address.{address, firstAddress, indexed, effective, afterIndexing}
 use Rattle.reference.specs.Reference.{operation, reference}
 use Rattle.reference.proofs.Addresses.{firstAddress-lt}
-use Rattle.pdp8_rows.specs.Shipped.{rows·address}
-use Rattle.pdp8_rows.proofs.Held.{Work, Fit, held, addressed, addressed-fit}
+use Rattle.pdp8_rows.proofs.Tree.{rows·address}
+use Rattle.pdp8_rows.proofs.Places.{Work, Fit, inPlaces, addressed, addressed-fit}
 use Rattle.pdp8_rows.proofs.Ends.{Ends, seen, acts, moved, unless}
-use Rattle.pdp8_rows.proofs.Bits.{of-bit, negated, test, word-kept, index-bits}
+use Rattle.pdp8_rows.proofs.Bits.{of-bit, negated, test, index-bits}
 use Rattle.pdp8_rows.proofs.References.{ends-execute}
 
 -- the address of the page that is chosen
@@ -52,23 +53,23 @@ module _ {o : State} {w : Work} (g : Good o) (f : Fit w) where
   after-good =
       pick-either (λ (m : List ℕ). Good (withMemory m o)) (eqb (first / 8) 1) (stored-good first (next-lt (getD (o .memory) first 0)) g) g
 
-  pub ends-address : Ends rows·address (held o w) (interruptTest (reference (w .i) (w .last) o))
+  pub ends-address : Ends rows·address (inPlaces o w) (interruptTest (reference (w .i) (w .last) o))
   unfolding reference effective afterIndexing indexed
   ends-address =
-      acts (held o (addressed (address 0 (pa (w .i))) w)) refl (ap (λ (x : ℕ). held o (addressed x w)) (on-page 0 (w .i) (omega arith)))
-      (moved (λ (x : ℕ). held o (addressed x w)) (address 0 (pa (w .i))) (address (bits wordBits 0 4 (w .last)) (pa (w .i))) (on (pb (w .i))) refl
-      (ap (λ (x : ℕ). held o (addressed x w)) (on-page (bits wordBits 0 4 (w .last)) (w .i) (omega arith)))
-      (seen (ap (λ (x : ℕ). held o (addressed x w)) chosen)
+      acts (inPlaces o (addressed (address 0 (pa (w .i))) w)) refl (ap (λ (x : ℕ). inPlaces o (addressed x w)) (on-page 0 (w .i) (omega arith)))
+      (moved (λ (x : ℕ). inPlaces o (addressed x w)) (address 0 (pa (w .i))) (address (bits wordBits 0 4 (w .last)) (pa (w .i))) (on (pb (w .i))) refl
+      (ap (λ (x : ℕ). inPlaces o (addressed x w)) (on-page (bits wordBits 0 4 (w .last)) (w .i) (omega arith)))
+      (seen (ap (λ (x : ℕ). inPlaces o (addressed x w)) chosen)
       (unless
       (λ (t : Bool). interruptTest (operation (op (w .i)) (pick t (getD after first 0) first) (withMemory (pick t after (o .memory)) o)))
       (on (ib (w .i)))
       (test (negated (of-bit (ib (w .i)) (omega arith))))
       (ends-execute g (addressed-fit first-lt f))
-      (moved (λ (m : List ℕ). held (withMemory m o) (addressed first w)) (o .memory) (set (o .memory) first (next (getD (o .memory) first 0)))
+      (moved (λ (m : List ℕ). inPlaces (withMemory m o) (addressed first w)) (o .memory) (set (o .memory) first (next (getD (o .memory) first 0)))
       (eqb (first / 8) 1)
       (on-bit (eqb (bits wordBits 0 8 first) 1) ∙ ap (λ (x : ℕ). eqb x 1) (index-bits first-lt))
-      (ap (λ (a : ℕ). held (withMemory (set (o .memory) a (next (getD (o .memory) a 0))) o) (addressed first w)) (word-kept first-lt))
-      (acts (held (withMemory after o) (addressed (getD after first 0) w)) refl
-      (ap (λ (x : ℕ). held (withMemory after o) (addressed x w))
-      (ap (λ (a : ℕ). getD after a 0 % 2 ^ wordBits) (word-kept first-lt) ∙ word-kept (after-good .memory .words first)))
+      (ap (λ (a : ℕ). inPlaces (withMemory (set (o .memory) a (next (getD (o .memory) a 0))) o) (addressed first w)) (mod-eq-of-lt first-lt))
+      (acts (inPlaces (withMemory after o) (addressed (getD after first 0) w)) refl
+      (ap (λ (x : ℕ). inPlaces (withMemory after o) (addressed x w))
+      (ap (λ (a : ℕ). getD after a 0 % 2 ^ wordBits) (mod-eq-of-lt first-lt) ∙ mod-eq-of-lt (after-good .memory .words first)))
       (ends-execute after-good (addressed-fit (after-good .memory .words first) f)))))))

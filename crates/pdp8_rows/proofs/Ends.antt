@@ -13,16 +13,16 @@ use Rattle.code.specs.Tree.{Expr, Destination}
 use Rattle.declaration.specs.Rows.{Row, does, goes}
 use Rattle.value.specs.Value as rows
 use Rattle.value.specs.Value.{value, store}
-use Rattle.pdp8_rows.proofs.Held.{Work, Fit, held}
+use Rattle.pdp8_rows.proofs.Places.{Work, Fit, inPlaces}
 use Rattle.pdp8_rows.proofs.Plain.{plain, plain-drop}
 
 pub record Ends (rs : List Row) (s : rows.State) (o : State) : Type 0 where
   pub left : Work
   pub fits : Fit left
-  pub same : plain rs 0 s ≡ held o left
+  pub same : plain rs 0 s ≡ inPlaces o left
 
 -- past the last row
-pub past : {o : State} {w : Work} → Fit w → Ends [] (held o w) o
+pub past : {o : State} {w : Work} → Fit w → Ends [] (inPlaces o w) o
 unfolding plain
 past {o} {w} f = record { left = w; fits = f; same = refl }
 
@@ -51,7 +51,7 @@ module _ {c : Expr} {d : Destination} {e : Expr} {rs : List Row} where
         same = case-false (on (value s c)) (plain rs 0 (store s d (value s e))) (plain rs 0 s) test ∙ r .same;
       }
 
-  -- a `do` by a test, that turns f x into f y
+  -- a `do` by a test, that makes f y of f x
   pub moved : {A : Type 0} {o : State} (f : A → rows.State) (x y : A) (t : Bool) → on (value (f x) c) ≡ t → store (f x) d (value (f x) e) ≡ f y
       → Ends rs (f (pick t y x)) o → Ends (does c d e ∷ rs) (f x) o
   moved f x y true test eq r = acts (f y) test eq r

@@ -1,5 +1,6 @@
+pub mod Tree
 pub mod Accepted
-pub mod Held
+pub mod Places
 mod Plain
 mod Ends
 mod Bits

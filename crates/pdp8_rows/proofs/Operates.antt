@@ -4,6 +4,7 @@ use mathlib.Core.Path.{_≡_, refl, sym, ap, subst}
 use mathlib.Core.Bool.{Bool}
 use mathlib.Core.List.{List, _∷_}
 use Prim.Native.Nat.{ℕ, _+_, _%_, _^_, _<_}
+use native.Mathlib.Nat.{mod-eq-of-lt}
 use lib.Dec.{lit<}
 use lib.ListN.{drop}
 use Rattle.word.specs.Choice.{on, pick}
@@ -15,16 +16,17 @@ use Rattle.machine.specs.State.{State, Good, lacBits, withLac, ac, withAc, with
 use Rattle.machine.specs.Instruction.{flag}
 use Rattle.machine.specs.Interrupt.{interruptTest}
 use Rattle.operators.specs.declared.Operator.the-variants.{RotateLeft, RotateRight}
-use Rattle.code.specs.Tree.{register, bitPart, constant, rotated, toRegister}
+use Rattle.code.specs.Tree.{rotated}
 use Rattle.declaration.specs.Rows.{Row, does, goes}
 use Rattle.value.specs.Value as rows
 use Rattle.operate.specs.Operate as machine
 use Rattle.operate.specs.Operate.{cleared, linkCleared, complemented, linkComplemented, increased, changed, group1, group3, operate}
 use Rattle.operate.proofs.Changes.{cleared-lt, linkCleared-lt, complemented-lt, changed-lt}
-use Rattle.pdp8_rows.specs.Shipped.{rows·opr, rows·twice, rows·group2, rows·group3, rows·interrupt}
-use Rattle.pdp8_rows.proofs.Held.{Work, Fit, held}
+use Rattle.pdp8_rows.proofs.Tree as tree
+use Rattle.pdp8_rows.proofs.Tree.{rows·opr, rows·twice, rows·group2, rows·group3, rows·interrupt}
+use Rattle.pdp8_rows.proofs.Places.{Work, Fit, inPlaces}
 use Rattle.pdp8_rows.proofs.Ends.{Ends, moved, jumps, decides, branches}
-use Rattle.pdp8_rows.proofs.Bits.{lac-kept, ac-stored, ac-cleared, link-cleared, link-complemented}
+use Rattle.pdp8_rows.proofs.Bits.{ac-stored, ac-cleared, link-cleared, link-complemented}
 use Rattle.pdp8_rows.proofs.Interrupts.{ends-interrupt}
 use Rattle.pdp8_rows.proofs.Skips.{ends-group2}
 
@@ -33,11 +35,11 @@ module _ {o : State} {w : Work} (g : Good o) (f : Fit w) where
   i = w .i
 
   -- LAC rotated by n places: left, and after it right
-  abbrev left : ℕ → ℕ → ℕ
-  left n x = pick (on (flag 9 i)) (rotatedLeft lacBits n x) x
+  abbrev leftBy : ℕ → ℕ → ℕ
+  leftBy n x = pick (on (flag 9 i)) (rotatedLeft lacBits n x) x
 
-  abbrev turned : ℕ → ℕ → ℕ
-  turned n x = pick (on (flag 8 i)) (rotatedRight lacBits n (left n x)) (left n x)
+  abbrev rotatedBy : ℕ → ℕ → ℕ
+  rotatedBy n x = pick (on (flag 8 i)) (rotatedRight lacBits n (leftBy n x)) (leftBy n x)
 
   -- LAC after each change of group 1
   abbrev lac₁ : ℕ
@@ -57,33 +59,33 @@ module _ {o : State} {w : Work} (g : Good o) (f : Fit w) where
 
   -- a state with another LAC
   abbrev lac-is : ℕ → rows.State
-  lac-is x = held (withLac x o) w
+  lac-is x = inPlaces (withLac x o) w
 
   ends-lac : (x : ℕ) → Ends rows·interrupt (lac-is x) (interruptTest (withLac x o))
   ends-lac x = ends-interrupt f (g .pc) (g .enable) (g .request)
 
-  ends-group3 : Ends rows·group3 (held o w) (interruptTest (group3 i o))
+  ends-group3 : Ends rows·group3 (inPlaces o w) (interruptTest (group3 i o))
   unfolding group3
   ends-group3 = moved lac-is (o .lac) (withoutAc (o .lac)) (on (flag 4 i)) refl (ap lac-is (ac-cleared (o .lac))) (ends-lac (cleared i (o .lac)))
 
-  left-lt : (n : ℕ) {x : ℕ} → x < 2 ^ lacBits → left n x < 2 ^ lacBits
-  left-lt n h = pick-either (λ (z : ℕ). z < 2 ^ lacBits) (on (flag 9 i)) (rotatedLeft-lt lacBits (lit< tt) n h) h
+  leftBy-lt : (n : ℕ) {x : ℕ} → x < 2 ^ lacBits → leftBy n x < 2 ^ lacBits
+  leftBy-lt n h = pick-either (λ (z : ℕ). z < 2 ^ lacBits) (on (flag 9 i)) (rotatedLeft-lt lacBits (lit< tt) n h) h
 
   -- two rows rotate by n places, and the third goes to the interrupt test
-  turns : (n : ℕ) (m : ℕ) (rs : List Row) (x : ℕ) → x < 2 ^ lacBits → drop m rs ≡ rows·interrupt
+  rotates : (n : ℕ) (m : ℕ) (rs : List Row) (x : ℕ) → x < 2 ^ lacBits → drop m rs ≡ rows·interrupt
       → Ends
-      (does (bitPart 6 12 9 9) (toRegister 0 13) (rotated RotateLeft (register 0 13) n)
-      ∷ does (bitPart 6 12 8 8) (toRegister 0 13) (rotated RotateRight (register 0 13) n)
-      ∷ goes (constant 2 1) m
+      (does (tree.iBit 9) tree.toLac (rotated RotateLeft tree.lac n)
+      ∷ does (tree.iBit 8) tree.toLac (rotated RotateRight tree.lac n)
+      ∷ goes tree.one m
       ∷ rs)
       (lac-is x)
-      (interruptTest (withLac (turned n x) o))
-  turns n m rs x h land =
-      moved lac-is x (rotatedLeft lacBits n x) (on (flag 9 i)) refl (ap lac-is (lac-kept (rotatedLeft-lt lacBits (lit< tt) n h)))
-      (moved lac-is (left n x) (rotatedRight lacBits n (left n x)) (on (flag 8 i)) refl (ap lac-is (lac-kept (rotatedRight-lt lacBits (lit< tt) n (left-lt n h))))
-      (jumps refl (subst (λ (l : List Row). Ends l (lac-is (turned n x)) (interruptTest (withLac (turned n x) o))) (sym land) (ends-lac (turned n x)))))
+      (interruptTest (withLac (rotatedBy n x) o))
+  rotates n m rs x h land =
+      moved lac-is x (rotatedLeft lacBits n x) (on (flag 9 i)) refl (ap lac-is (mod-eq-of-lt (rotatedLeft-lt lacBits (lit< tt) n h)))
+      (moved lac-is (leftBy n x) (rotatedRight lacBits n (leftBy n x)) (on (flag 8 i)) refl (ap lac-is (mod-eq-of-lt (rotatedRight-lt lacBits (lit< tt) n (leftBy-lt n h))))
+      (jumps refl (subst (λ (l : List Row). Ends l (lac-is (rotatedBy n x)) (interruptTest (withLac (rotatedBy n x) o))) (sym land) (ends-lac (rotatedBy n x)))))
 
-  ends-group1 : Ends (drop 1 rows·opr) (held o w) (interruptTest (group1 i o))
+  ends-group1 : Ends (drop 1 rows·opr) (inPlaces o w) (interruptTest (group1 i o))
   unfolding group1 changed machine.rotated
   ends-group1 =
       moved lac-is (o .lac) (withoutAc (o .lac)) (on (flag 4 i)) refl (ap lac-is (ac-cleared (o .lac)))
@@ -92,11 +94,11 @@ module _ {o : State} {w : Work} (g : Good o) (f : Fit w) where
       (moved lac-is lac₃ ((lac₃ + 2 ^ wordBits) % 2 ^ lacBits) (on (flag 7 i)) refl
       (ap lac-is (link-complemented (complemented-lt i (linkCleared-lt i (cleared-lt i (g .lac))))))
       (moved lac-is lac₄ ((lac₄ + 1) % 2 ^ lacBits) (on (flag 11 i)) refl refl
-      (decides (λ (t : Bool). interruptTest (withLac (turned (pick t 2 1) lac₅) o)) (on (flag 10 i)) refl
-      (turns 2 17 rows·group2 lac₅ (changed-lt i (g .lac)) refl)
-      (turns 1 20 rows·twice lac₅ (changed-lt i (g .lac)) refl))))))
+      (decides (λ (t : Bool). interruptTest (withLac (rotatedBy (pick t 2 1) lac₅) o)) (on (flag 10 i)) refl
+      (rotates 2 17 rows·group2 lac₅ (changed-lt i (g .lac)) refl)
+      (rotates 1 20 rows·twice lac₅ (changed-lt i (g .lac)) refl))))))
 
-  pub ends-opr : Ends rows·opr (held o w) (interruptTest (operate i o))
+  pub ends-opr : Ends rows·opr (inPlaces o w) (interruptTest (operate i o))
   unfolding operate
   ends-opr =
       branches interruptTest (on (flag 3 i)) refl (branches interruptTest (on (flag 11 i)) refl ends-group3 (ends-group2 g f)) ends-group1

@@ -3,6 +3,7 @@
 use mathlib.Core.Path.{_≡_, refl, sym, ap, ap₂, _∙_, subst}
 use mathlib.Core.Bool.{Bool, true, false, not}
 use Prim.Native.Nat.{ℕ, _+_, _%_, _^_, _<_}
+use native.Mathlib.Nat.{mod-eq-of-lt}
 use native.Mathlib.Omega.{arith}
 use lib.Bits.{bitAnd, and-le-l}
 use lib.Dec.{eqb}
@@ -17,10 +18,10 @@ use Rattle.machine.specs.Instruction.{op}
 use Rattle.machine.specs.Interrupt.{interruptTest}
 use Rattle.machine.proofs.Lac.{ac-lt}
 use Rattle.reference.specs.Reference.{andTo, addTo, incrementAndSkip, deposit, callAt, jumpTo, operation}
-use Rattle.pdp8_rows.specs.Shipped.{rows·execute, rows·jmp, rows·and, rows·tad, rows·isz, rows·dca, rows·jms}
-use Rattle.pdp8_rows.proofs.Held.{Work, Fit, held}
+use Rattle.pdp8_rows.proofs.Tree.{rows·execute, rows·jmp, rows·and, rows·tad, rows·isz, rows·dca, rows·jms}
+use Rattle.pdp8_rows.proofs.Places.{Work, Fit, inPlaces}
 use Rattle.pdp8_rows.proofs.Ends.{Ends, seen, acts, moved, jumps, branches}
-use Rattle.pdp8_rows.proofs.Bits.{word-kept, ac-stored, ac-cleared}
+use Rattle.pdp8_rows.proofs.Bits.{ac-stored, ac-cleared}
 use Rattle.pdp8_rows.proofs.Interrupts.{ends-interrupt}
 
 -- a choice the other way round
@@ -31,37 +32,37 @@ pick-not false x y = refl
 module _ {o : State} {w : Work} (g : Good o) (f : Fit w) where
   -- "A memory address is taken modulo 4,096": eadd is one
   at-eadd : w .eadd % 2 ^ wordBits ≡ w .eadd
-  at-eadd = word-kept (f .eadd)
+  at-eadd = mod-eq-of-lt (f .eadd)
 
-  ends-jmp : Ends rows·jmp (held o w) (interruptTest (jumpTo (w .eadd) o))
+  ends-jmp : Ends rows·jmp (inPlaces o w) (interruptTest (jumpTo (w .eadd) o))
   ends-jmp =
-      acts (held (withPc (w .eadd) o) w) refl (ap (λ (x : ℕ). held (withPc x o) w) at-eadd)
+      acts (inPlaces (withPc (w .eadd) o) w) refl (ap (λ (x : ℕ). inPlaces (withPc x o) w) at-eadd)
       (jumps refl (ends-interrupt f (f .eadd) (g .enable) (g .request)))
 
-  ends-and : Ends rows·and (held o w) (interruptTest (andTo (w .eadd) o))
+  ends-and : Ends rows·and (inPlaces o w) (interruptTest (andTo (w .eadd) o))
   ends-and =
-      acts (held (andTo (w .eadd) o) w) refl
-      (ap (λ (x : ℕ). held (withLac x o) w)
+      acts (inPlaces (andTo (w .eadd) o) w) refl
+      (ap (λ (x : ℕ). inPlaces (withLac x o) w)
       (ap (λ (a : ℕ). withBits lacBits 1 12 (o .lac) (bitAnd (ac (o .lac)) (word a o))) at-eadd
       ∙ ac-stored (o .lac) (let h = ac-lt (o .lac) in let l = and-le-l (ac (o .lac)) (word (w .eadd) o) in omega arith)))
       (jumps refl (ends-interrupt f (g .pc) (g .enable) (g .request)))
 
-  ends-tad : Ends rows·tad (held o w) (interruptTest (addTo (w .eadd) o))
+  ends-tad : Ends rows·tad (inPlaces o w) (interruptTest (addTo (w .eadd) o))
   ends-tad =
-      acts (held (addTo (w .eadd) o) w) refl (ap (λ (a : ℕ). held (withLac ((o .lac + word a o) % 2 ^ lacBits) o) w) at-eadd)
+      acts (inPlaces (addTo (w .eadd) o) w) refl (ap (λ (a : ℕ). inPlaces (withLac ((o .lac + word a o) % 2 ^ lacBits) o) w) at-eadd)
       (jumps refl (ends-interrupt f (g .pc) (g .enable) (g .request)))
 
-  ends-dca : Ends rows·dca (held o w) (interruptTest (deposit (w .eadd) o))
+  ends-dca : Ends rows·dca (inPlaces o w) (interruptTest (deposit (w .eadd) o))
   ends-dca =
-      acts (held (stored (w .eadd) (ac (o .lac)) o) w) refl
-      (ap₂ (λ (a x : ℕ). held (stored a x o) w) at-eadd (word-kept (ac-lt (o .lac))))
-      (acts (held (deposit (w .eadd) o) w) refl (ap (λ (x : ℕ). held (withLac x (stored (w .eadd) (ac (o .lac)) o)) w) (ac-cleared (o .lac)))
+      acts (inPlaces (stored (w .eadd) (ac (o .lac)) o) w) refl
+      (ap₂ (λ (a x : ℕ). inPlaces (stored a x o) w) at-eadd (mod-eq-of-lt (ac-lt (o .lac))))
+      (acts (inPlaces (deposit (w .eadd) o) w) refl (ap (λ (x : ℕ). inPlaces (withLac x (stored (w .eadd) (ac (o .lac)) o)) w) (ac-cleared (o .lac)))
       (jumps refl (ends-interrupt f (g .pc) (g .enable) (g .request))))
 
-  ends-jms : Ends rows·jms (held o w) (interruptTest (callAt (w .eadd) o))
+  ends-jms : Ends rows·jms (inPlaces o w) (interruptTest (callAt (w .eadd) o))
   ends-jms =
-      acts (held (stored (w .eadd) (o .pc) o) w) refl (ap₂ (λ (a x : ℕ). held (stored a x o) w) at-eadd (word-kept (g .pc)))
-      (acts (held (callAt (w .eadd) o) w) refl refl
+      acts (inPlaces (stored (w .eadd) (o .pc) o) w) refl (ap₂ (λ (a x : ℕ). inPlaces (stored a x o) w) at-eadd (mod-eq-of-lt (g .pc)))
+      (acts (inPlaces (callAt (w .eadd) o) w) refl refl
       (jumps refl (ends-interrupt f (next-lt (w .eadd)) (g .enable) (g .request))))
 
   -- the word that op 2 leaves
@@ -73,16 +74,16 @@ module _ {o : State} {w : Work} (g : Good o) (f : Fit w) where
       ap (λ (a : ℕ). getD (set (o .memory) (w .eadd) increased) a 0) at-eadd
       ∙ getD-set-same (o .memory) (w .eadd) increased 0 (subst (λ (n : ℕ). w .eadd < n) (sym (g .memory .size)) (f .eadd))
 
-  ends-isz : Ends rows·isz (held o w) (interruptTest (incrementAndSkip (w .eadd) o))
+  ends-isz : Ends rows·isz (inPlaces o w) (interruptTest (incrementAndSkip (w .eadd) o))
   ends-isz =
-      acts (held (stored (w .eadd) increased o) w) refl (ap (λ (a : ℕ). held (stored a (next (word a o)) o) w) at-eadd)
-      (moved (λ (n : ℕ). held (withPc n (stored (w .eadd) increased o)) w) (o .pc) (next (o .pc)) (eqb increased 0)
+      acts (inPlaces (stored (w .eadd) increased o) w) refl (ap (λ (a : ℕ). inPlaces (stored a (next (word a o)) o) w) at-eadd)
+      (moved (λ (n : ℕ). inPlaces (withPc n (stored (w .eadd) increased o)) w) (o .pc) (next (o .pc)) (eqb increased 0)
       (on-bit (eqb (getD (set (o .memory) (w .eadd) increased) (w .eadd % 2 ^ wordBits) 0) 0) ∙ ap (λ (v : ℕ). eqb v 0) read-back) refl
-      (seen (ap (λ (n : ℕ). held (withPc n (stored (w .eadd) increased o)) w) (pick-not (eqb increased 0) (o .pc) (next (o .pc))))
+      (seen (ap (λ (n : ℕ). inPlaces (withPc n (stored (w .eadd) increased o)) w) (pick-not (eqb increased 0) (o .pc) (next (o .pc))))
       (jumps refl
       (ends-interrupt f (pick-either (λ (n : ℕ). n < 2 ^ wordBits) (on increased) (g .pc) (next-lt (o .pc))) (g .enable) (g .request)))))
 
-  pub ends-execute : Ends rows·execute (held o w) (interruptTest (operation (op (w .i)) (w .eadd) o))
+  pub ends-execute : Ends rows·execute (inPlaces o w) (interruptTest (operation (op (w .i)) (w .eadd) o))
   unfolding operation
   ends-execute =
       branches interruptTest (eqb (op (w .i)) 0) (on-bit (eqb (op (w .i)) 0)) ends-and

@@ -12,39 +12,41 @@ use Rattle.pdp8.specs.Run as steps
 use Rattle.pdp8.proofs.Keeps.{step-good}
 use Rattle.characters.specs.Characters.{same}
 use Rattle.characters.specs.Named.{find}
+use Rattle.declaration.specs.Rows.{Description}
 use Rattle.description.specs.Description.{runName}
 use Rattle.value.specs.Value as rows
 use Rattle.cycles.specs.Cycle.{Cycle, cycle}
 use Rattle.cycles.specs.Run as cycles
 use Rattle.cycles.specs.Run.{running}
-use Rattle.pdp8_rows.specs.Shipped.{shipped, shippedRegisters}
-use Rattle.pdp8_rows.proofs.Held.{Work, Fit, held}
+use Rattle.pdp8_rows.specs.Text.{shipped}
+use Rattle.pdp8_rows.proofs.Accepted.{shipped-is}
+use Rattle.pdp8_rows.proofs.Places.{Work, Fit, inPlaces}
 use Rattle.pdp8_rows.proofs.Cycles.{cycles-step}
 
 -- RUN is the machine's
-run-place : find runName shippedRegisters ≡ 2
+run-place : find runName (shipped .registers) ≡ 2
 unfolding find same
-run-place = refl
+run-place = ap (λ (d : Description). find runName (d .registers)) shipped-is
 
-pub running-held : (c : rows.State) (o : State) (w : Work) → c ≡ held o w → running shipped c ≡ o .run
-running-held c o w e = ap (running shipped) e ∙ ap (λ (k : ℕ). getD (held o w .registers) k 0) run-place
+pub running-in-places : (c : rows.State) (o : State) (w : Work) → c ≡ inPlaces o w → running shipped c ≡ o .run
+running-in-places c o w e = ap (running shipped) e ∙ ap (λ (k : ℕ). getD (inPlaces o w .registers) k 0) run-place
 
 -- the two runs' ends
 pub record Alike (a : steps.Run) (b : cycles.Run) : Type 0 where
   pub left : Work
   pub fits : Fit left
-  pub state : b .state ≡ held (a .state) left
+  pub state : b .state ≡ inPlaces (a .state) left
   pub steps : b .steps ≡ a .steps
   pub reason : b .reason ≡ a .reason
 
-ended-alike : (done : ℕ) (o : State) (w : Work) (c : Cycle) → Fit w → c .state ≡ held o w → Alike (steps.ended done o) (cycles.ended shipped done c)
+ended-alike : (done : ℕ) (o : State) (w : Work) (c : Cycle) → Fit w → c .state ≡ inPlaces o w → Alike (steps.ended done o) (cycles.ended shipped done c)
 ended-alike done o w c f e =
     record {
       left = w;
       fits = f;
       state = e;
       steps = refl;
-      reason = ap (λ (x : ℕ). pick (on x) Spent Halted) (running-held (c .state) o w e);
+      reason = ap (λ (x : ℕ). pick (on x) Spent Halted) (running-in-places (c .state) o w e);
     }
 
 -- one test decides of both
@@ -56,7 +58,7 @@ decided-alike t u a b x y e p q = subst (λ (v : Bool). Alike (elim t [ true ↦
     go true = p
     go false = q
 
-pub runs-alike : (left done : ℕ) (o : State) (w : Work) (c : Cycle) → Good o → Fit w → c .state ≡ held o w
+pub runs-alike : (left done : ℕ) (o : State) (w : Work) (c : Cycle) → Good o → Fit w → c .state ≡ inPlaces o w
     → Alike (steps.runFrom left done o) (cycles.runFrom shipped left done c)
 unfolding cycles.runFrom steps.runFrom
 runs-alike zero done o w c g f e = ended-alike done o w c f e
@@ -64,7 +66,7 @@ runs-alike (suc left) done o w c g f e =
     decided-alike (on (o .run)) (on (running shipped (c .state))) (steps.runFrom left (suc done) (step o)) (steps.ended done o)
     (cycles.runFrom shipped left (suc done) (cycle (shipped .rows) (c .state)))
     (cycles.ended shipped done c)
-    (ap on (running-held (c .state) o w e))
+    (ap on (running-in-places (c .state) o w e))
     (runs-alike left (suc done) (step o) (cycles-step g f .0) (cycle (shipped .rows) (c .state)) (step-good g) (cycles-step g f .1)
     (ap (λ (s : rows.State). cycle (shipped .rows) s .state) e ∙ cycles-step g f .2))
     (ended-alike done o w c f e)

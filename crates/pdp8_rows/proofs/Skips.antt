@@ -15,13 +15,13 @@ use Rattle.machine.specs.State.{State, Good, withLac, withPc, withRun, link, ac
 use Rattle.machine.specs.Instruction.{flag}
 use Rattle.machine.specs.Interrupt.{interruptTest}
 use Rattle.machine.proofs.Lac.{ac-lt}
-use Rattle.code.specs.Tree.{Expr, constant, toRegister}
+use Rattle.code.specs.Tree.{Expr}
 use Rattle.declaration.specs.Rows.{Row, does}
 use Rattle.value.specs.Value as rows
 use Rattle.value.specs.Value.{value}
 use Rattle.operate.specs.Operate.{cleared, sign, skipsPlain, skipsReversed, skips, switched, group2}
-use Rattle.pdp8_rows.specs.Shipped.{rows·group2, rows·inverted, rows·decided}
-use Rattle.pdp8_rows.proofs.Held.{Work, Fit, held, skipping, skipping-fit}
+use Rattle.pdp8_rows.proofs.Tree.{toSkip, one, rows·group2, rows·inverted, rows·decided}
+use Rattle.pdp8_rows.proofs.Places.{Work, Fit, inPlaces, skipping, skipping-fit}
 use Rattle.pdp8_rows.proofs.Ends.{Ends, seen, acts, moved, jumps, decides}
 use Rattle.pdp8_rows.proofs.Bits.{of-test, of-bit, of-zero, negated, both, test, set-where, ac-stored, ac-cleared}
 use Rattle.pdp8_rows.proofs.Interrupts.{ends-interrupt}
@@ -41,17 +41,17 @@ module _ {o : State} {w : Work} (g : Good o) (f : Fit w) where
 
   -- states with the skip so far; then with PC counted and another LAC; then with another RUN
   abbrev skip-is : Bool → rows.State
-  skip-is b = held o (skipping (bit b) w)
+  skip-is b = inPlaces o (skipping (bit b) w)
 
   abbrev lac-is : Bool → ℕ → rows.State
-  lac-is b x = held (withLac x (withPc (pick b (next (o .pc)) (o .pc)) o)) (skipping (bit b) w)
+  lac-is b x = inPlaces (withLac x (withPc (pick b (next (o .pc)) (o .pc)) o)) (skipping (bit b) w)
 
   abbrev run-is : Bool → ℕ → rows.State
-  run-is b x = held (withRun x (decided b)) (skipping (bit b) w)
+  run-is b x = inPlaces (withRun x (decided b)) (skipping (bit b) w)
 
   ends-decided : (b : Bool) → Ends rows·decided (skip-is b) (interruptTest (decided b))
   ends-decided b =
-      moved (λ (x : ℕ). held (withPc x o) (skipping (bit b) w)) (o .pc) (next (o .pc)) b (on-bit b) refl
+      moved (λ (x : ℕ). inPlaces (withPc x o) (skipping (bit b) w)) (o .pc) (next (o .pc)) b (on-bit b) refl
       (moved (lac-is b) lac (withoutAc lac) (on (flag 4 i)) refl (ap (lac-is b) (ac-cleared lac))
       (moved (lac-is b) (cleared i lac) (withAc (cleared i lac) (bitOr (ac (cleared i lac)) (o .switches))) (on (flag 9 i)) refl
       (ap (lac-is b) (ac-stored (cleared i lac) (or-lt wordBits (ac (cleared i lac)) (o .switches) (ac-lt (cleared i lac)) (g .switches))))
@@ -61,9 +61,9 @@ module _ {o : State} {w : Work} (g : Good o) (f : Fit w) where
 
   -- a row that sets skip where its condition holds
   selects : {c : Expr} {rs : List Row} {p : State} (b t : Bool) → on (value (skip-is b) c) ≡ t → Ends rs (skip-is (b || t)) p
-      → Ends (does c (toRegister 9 1) (constant 2 1) ∷ rs) (skip-is b) p
+      → Ends (does c toSkip one ∷ rs) (skip-is b) p
   selects b t condition r =
-      moved (λ (x : ℕ). held o (skipping x w)) (bit b) 1 t condition refl (seen (ap (λ (x : ℕ). held o (skipping x w)) (set-where b t)) r)
+      moved (λ (x : ℕ). inPlaces o (skipping x w)) (bit b) 1 t condition refl (seen (ap (λ (x : ℕ). inPlaces o (skipping x w)) (set-where b t)) r)
 
   -- bits 5 to 7, by the names that they have in 002
   abbrev sma : Bool
@@ -103,7 +103,7 @@ module _ {o : State} {w : Work} (g : Good o) (f : Fit w) where
       (ends-decided (skipsReversed i lac)))))
 
   -- from the row below its first, which leaves the third group apart
-  pub ends-group2 : Ends (drop 1 rows·group2) (held o w) (interruptTest (group2 i o))
+  pub ends-group2 : Ends (drop 1 rows·group2) (inPlaces o w) (interruptTest (group2 i o))
   unfolding group2 skips
   ends-group2 =
       acts (skip-is false) refl refl

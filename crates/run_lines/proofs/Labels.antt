@@ -1,15 +1,16 @@
 -- The row that stands below a label is the row that its `go` continues with: so of every row of the shipped description.
 -- Assumes nothing.
-use mathlib.Core.Path.{_≡_, refl}
+use mathlib.Core.Path.{_≡_, refl, sym, ap, _∙_}
 use mathlib.Core.List.{List, [], _∷_, map}
 use Prim.Native.Nat.{ℕ, suc, _+_}
 use Rattle.word.specs.Choice.{pick}
 use Rattle.characters.specs.Characters.{run, same}
 use Rattle.fields.specs.Fields.{lines, field}
-use Rattle.declaration.specs.Rows.{Row, does, goes}
+use Rattle.declaration.specs.Rows.{Row, does, goes, Description}
 use Rattle.targets.specs.Targets.{passes}
-use Rattle.pdp8_rows.specs.Text.{shippedText}
-use Rattle.pdp8_rows.specs.Shipped.{shipped}
+use Rattle.pdp8_rows.specs.Text.{shippedText, shipped}
+use Rattle.pdp8_rows.proofs.Tree.{tree}
+use Rattle.pdp8_rows.proofs.Accepted.{shipped-is}
 use Rattle.run_lines.specs.Rows.{rowTexts, isGo, labelOf, rowBelow}
 
 -- for rows from number k on, the row that each continues with where its condition isn't 0, by the rows that it passes over; 0 for a `do`
@@ -22,6 +23,9 @@ continues k (goes c n ∷ rs) = (k + 1 + n) ∷ continues (suc k) rs
 abbrev named : List ℕ → ℕ
 named line = pick (isGo line) (rowBelow (labelOf line) shippedText) 0
 
-pub labels-lead : map named (rowTexts (lines shippedText)) ≡ continues 1 (shipped .rows)
+in-tree : map named (rowTexts (lines shippedText)) ≡ continues 1 (tree .rows)
 unfolding run same lines field passes rowTexts shippedText
-labels-lead = refl
+in-tree = refl
+
+pub labels-lead : map named (rowTexts (lines shippedText)) ≡ continues 1 (shipped .rows)
+labels-lead = in-tree ∙ ap (λ (d : Description). continues 1 (d .rows)) (sym shipped-is)

@@ -8,10 +8,12 @@ use lib.ListN.{length, getD, drop, length-append}
 use lib.Seq.{drop-cons}
 use Rattle.machine.specs.declared.Machine.{Machine}
 use Rattle.machine.specs.State.{values}
-use Rattle.characters.specs.Ascii.{tab, lineFeed}
+use Rattle.characters.specs.Ascii.{ascii, tab, lineFeed}
 use Rattle.page.specs.Text.{octal}
 use Rattle.page.specs.Written.{Written}
 use Rattle.page.proofs.Numbers.{octal-length}
+use Rattle.declaration.specs.Rows.{Description}
+use Rattle.pdp8_rows.proofs.Accepted.{shipped-is}
 use Rattle.entry.specs.Lines.{machineRegisters}
 use Rattle.run_lines.specs.Registers.{registerLines, workingRegisters, workingValues, registerLinesBytes, workingLinesBytes}
 
@@ -32,7 +34,13 @@ registers-size m =
     let switches = octal-length 4 (m .switches) in
     simp length-append (omega arith)
 
--- the working registers stand at places 6 to 9
+-- "A shipped description's registers that the emulator lacks": i, last.pc, eadd, skip
+pub working-registers : workingRegisters
+    ≡ record { name = ascii "i"; number = 12 } ∷ record { name = ascii "last.pc"; number = 12 }
+    ∷ record { name = ascii "eadd"; number = 12 } ∷ record { name = ascii "skip"; number = 1 } ∷ []
+working-registers = ap (λ (d : Description). drop (length machineRegisters) (d .registers)) shipped-is
+
+-- they stand at places 6 to 9
 pub working-values : (values : List ℕ) → length values ≡ 16
     → workingValues values ≡ getD values 6 0 ∷ getD values 7 0 ∷ getD values 8 0 ∷ getD values 9 0 ∷ drop 10 values
 working-values values h =
@@ -47,4 +55,4 @@ working-size values h =
     let last = octal-length 4 (getD values 7 0) in
     let address = octal-length 4 (getD values 8 0) in
     let skip = octal-length 1 (getD values 9 0) in
-    rw (working-values values h) (simp length-append (omega arith))
+    rw (working-registers, working-values values h) (simp length-append (omega arith))

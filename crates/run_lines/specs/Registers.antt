@@ -6,7 +6,7 @@ use lib.ListN.{length, drop}
 use Rattle.characters.specs.Ascii.{tab, lineFeed}
 use Rattle.page.specs.Text.{octal}
 use Rattle.characters.specs.Named.{Named}
-use Rattle.pdp8_rows.specs.Shipped.{shippedRegisters}
+use Rattle.pdp8_rows.specs.Text.{shipped}
 use Rattle.entry.specs.Lines.{machineRegisters, digitsOf}
 
 -- "its name and the value that the run leaves, in octal with a digit for every three bits begun"
@@ -21,7 +21,7 @@ registerLines (r ∷ rs) (v ∷ vs) = registerLine r v ++ registerLines rs vs
 
 -- "A shipped description's registers that the emulator lacks are its working registers": those after the machine's
 abbrev pub workingRegisters : List Named
-workingRegisters = drop (length machineRegisters) shippedRegisters
+workingRegisters = drop (length machineRegisters) (shipped .registers)
 
 -- their values among those of a description's registers
 abbrev pub workingValues : List ℕ → List ℕ

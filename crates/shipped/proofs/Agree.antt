@@ -18,12 +18,11 @@ use Rattle.value.specs.Value as rows
 use Rattle.cycles.specs.Run as cycles
 use Rattle.evaluator.specs.Evaluate as evaluator
 use Rattle.evaluator.specs.Evaluate.{evaluate, evaluateOf, check}
-use Rattle.pdp8_rows.specs.Text.{shippedText}
-use Rattle.pdp8_rows.specs.Shipped.{shipped}
+use Rattle.pdp8_rows.specs.Text.{shippedText, shipped}
 use Rattle.shipped.specs.Claim.{machinePart, Start, Same, cyclesOf, Claim}
-use Rattle.pdp8_rows.proofs.Accepted.{shipped-accepted}
+use Rattle.pdp8_rows.proofs.Accepted.{shipped-read}
 use Rattle.pdp8_rows.proofs.Runs.{Alike, runs-alike}
-use Rattle.shipped.proofs.Starts.{workOf, start-held, start-good, work-fits, emulator-passes, evaluator-passes}
+use Rattle.shipped.proofs.Starts.{workOf, start-in-places, start-good, work-fits, emulator-passes, evaluator-passes}
 
 -- an answer by a check that found nothing
 passed : {A : Type 0} (v : Verdict) (ran : A) (refused : Refusal → A) → v ≡ Fit → elim v [ Fit ↦ ran | Unfit why ↦ refused why ] ≡ ran
@@ -49,7 +48,7 @@ module _ {m : Machine} {registers memory : List ℕ} {budget : ℕ} {list : List
   evaluated : evaluate shippedText registers memory budget list ≡ evaluator.finished (cyclesOf registers memory budget) list
   unfolding evaluate evaluateOf
   evaluated =
-      ap (λ (a : text.Answer). evaluateOf a registers memory budget list) shipped-accepted
+      ap (λ (a : text.Answer). evaluateOf a registers memory budget list) shipped-read
       ∙ passed (check shipped registers memory budget list) (evaluator.finished (cyclesOf registers memory budget) list)
       (λ why. evaluator.refused (numberOf why) (placeOf why) registers memory list)
       (evaluator-passes s)
@@ -58,19 +57,18 @@ module _ {m : Machine} {registers memory : List ℕ} {budget : ℕ} {list : List
   unfolding steps.run cycles.run
   ends-alike =
       runs-alike budget 0 (start m memory) (workOf registers) (record { state = record { registers = registers; memory = memory }; acted = [] })
-      (start-good s) (work-fits s) (start-held s)
+      (start-good s) (work-fits s) (start-in-places s)
 
 -- every acceptable memory, all fitting machine and working registers, every budget from 0 to 1,000,000 and every row list of 128 places or more
 pub runs-agree : (m : Machine) (registers memory : List ℕ) (budget : ℕ) (list : List ℕ) → Start m registers memory budget list
     → Claim m registers memory budget list
 runs-agree m registers memory budget list s =
     record {
-      read = shipped-accepted;
+      read = shipped-read;
       emulated = emulated s;
       evaluated = evaluated s;
       same =
           subst (λ (a : emulator.Report). Same a (evaluate shippedText registers memory budget list)) (sym (emulated s))
           (subst (λ (b : evaluator.Report). Same (emulator.finished (steps.run budget (start m memory))) b) (sym (evaluated s))
           (same-answers list (ends-alike s)));
-      rows = ap (λ (b : evaluator.Report). b .list) (evaluated s);
     }

@@ -14,30 +14,30 @@ use Rattle.pdp8.specs.Run as steps
 use Rattle.pdp8.proofs.Runs.{halted-at-entry}
 use Rattle.emulator.specs.Emulate as emulator
 use Rattle.emulator.specs.Emulate.{emulate}
+use Rattle.declaration.specs.Rows.{Description}
 use Rattle.value.specs.Value as rows
 use Rattle.cycles.specs.Cycle.{cycle}
 use Rattle.cycles.specs.Run as cycles
 use Rattle.cycles.specs.Run.{running}
 use Rattle.evaluator.specs.Evaluate as evaluator
 use Rattle.evaluator.specs.Evaluate.{evaluate}
-use Rattle.pdp8_rows.specs.Text.{shippedText}
-use Rattle.pdp8_rows.specs.Shipped.{shipped}
+use Rattle.pdp8_rows.specs.Text.{shippedText, shipped}
 use Rattle.shipped.specs.Claim.{Start, Claim}
-use Rattle.pdp8_rows.proofs.Runs.{running-held}
-use Rattle.shipped.proofs.Starts.{workOf, start-held}
+use Rattle.pdp8_rows.proofs.Runs.{running-in-places}
+use Rattle.shipped.proofs.Starts.{workOf, start-in-places}
 use Rattle.shipped.proofs.Agree.{runs-agree}
 
 -- a run without cycles: all is as it came
 abbrev idle : Reason → List ℕ → List ℕ → cycles.Run
 idle why registers memory = record { state = record { registers = registers; memory = memory }; steps = 0; reason = why; acted = [] }
 
--- RUN is 0: no cycle is done, at every budget
-cycles-halted : (left : ℕ) (s : rows.State) → running shipped s ≡ 0
-    → cycles.runFrom shipped left 0 (record { state = s; acted = [] }) ≡ record { state = s; steps = 0; reason = Halted; acted = [] }
+-- RUN is 0: no cycle is done, at every budget, by any description
+cycles-halted : (d : Description) (left : ℕ) (s : rows.State) → running d s ≡ 0
+    → cycles.runFrom d left 0 (record { state = s; acted = [] }) ≡ record { state = s; steps = 0; reason = Halted; acted = [] }
 unfolding cycles.runFrom
-cycles-halted zero s e = ap (λ (x : ℕ). record { state = s; steps = 0; reason = pick (on x) Spent Halted; acted = [] }) e
-cycles-halted (suc left) s e =
-    case-false (on (running shipped s)) (cycles.runFrom shipped left 1 (cycle (shipped .rows) s)) (cycles.ended shipped 0 (record { state = s; acted = [] }))
+cycles-halted d zero s e = ap (λ (x : ℕ). record { state = s; steps = 0; reason = pick (on x) Spent Halted; acted = [] }) e
+cycles-halted d (suc left) s e =
+    case-false (on (running d s)) (cycles.runFrom d left 1 (cycle (d .rows) s)) (cycles.ended d 0 (record { state = s; acted = [] }))
     (ap on e)
     ∙ ap (λ (x : ℕ). record { state = s; steps = 0; reason = pick (on x) Spent Halted; acted = [] }) e
 
@@ -65,8 +65,8 @@ module _ (m : Machine) (registers memory list : List ℕ) where
         claim .emulated ∙ ap emulator.finished (halted-at-entry budget (start m memory) e),
         claim .evaluated
             ∙ ap (λ (r : cycles.Run). evaluator.finished r list)
-            (cycles-halted budget (record { registers = registers; memory = memory })
-            (running-held (record { registers = registers; memory = memory }) (start m memory) (workOf registers) (start-held s) ∙ e)),
+            (cycles-halted shipped budget (record { registers = registers; memory = memory })
+            (running-in-places (record { registers = registers; memory = memory }) (start m memory) (workOf registers) (start-in-places s) ∙ e)),
       )
 
   -- INTERRUPT.ENABLE and INTERRUPT.REQUEST both 1 at entry

@@ -19,13 +19,16 @@ use Rattle.machine.specs.State.{widths, values, start, Good}
 use Rattle.emulator.proofs.Starts.{good-checked}
 use Rattle.value.specs.Value as rows
 use Rattle.evaluator.specs.Evaluate.{widthsOf, check}
-use Rattle.pdp8_rows.specs.Shipped.{shipped}
+use Rattle.declaration.specs.Rows.{Description}
+use Rattle.pdp8_rows.specs.Text.{shipped}
 use Rattle.shipped.specs.Claim.{machinePart, Start}
-use Rattle.pdp8_rows.proofs.Held.{Work, Fit, held}
+use Rattle.pdp8_rows.proofs.Tree.{tree}
+use Rattle.pdp8_rows.proofs.Accepted.{shipped-is}
+use Rattle.pdp8_rows.proofs.Places.{Work, Fit, inPlaces}
 
 -- "Machine registers, in this order, which begins the shipped description too"
 pub shipped-begins : machinePart (widthsOf shipped) ≡ widths
-shipped-begins = refl
+shipped-begins = ap (λ (d : Description). machinePart (widthsOf d)) shipped-is
 
 -- n places of a list one by one, then the places that follow
 abbrev spelled : ℕ → ℕ → List ℕ → List ℕ
@@ -46,11 +49,11 @@ module _ {m : Machine} {registers memory : List ℕ} {budget : ℕ} {list : List
       sym (take-append-drop 6 registers)
       ∙ ap₂ _++_ (s .machine) (spelled-is 6 4 registers (subst (λ (n : ℕ). 10 ≤ n) (sym (s .places)) (lit≤ tt)))
 
-  pub start-held : _≡_ {A = rows.State} (record { registers = registers; memory = memory }) (held (start m memory) (workOf registers))
-  start-held = ap (λ (l : List ℕ). record { registers = l; memory = memory }) places-are
+  pub start-in-places : _≡_ {A = rows.State} (record { registers = registers; memory = memory }) (inPlaces (start m memory) (workOf registers))
+  start-in-places = ap (λ (l : List ℕ). record { registers = l; memory = memory }) places-are
 
-  fitting : Fitting (widthsOf shipped) (values m ++ spelled 6 4 registers)
-  fitting = subst (Fitting (widthsOf shipped)) places-are (s .fitting)
+  fitting : Fitting (widthsOf tree) (values m ++ spelled 6 4 registers)
+  fitting = subst (λ (d : Description). Fitting (widthsOf d) (values m ++ spelled 6 4 registers)) shipped-is (subst (Fitting (widthsOf shipped)) places-are (s .fitting))
 
   pub start-good : Good (start m memory)
   start-good =
@@ -94,13 +97,13 @@ every-start m memory i last eadd skip budget list g hi hl he hs within roomy =
     record {
       places = refl;
       machine = refl;
-      fitting = record { narrow = at };
+      fitting = subst (λ (d : Description). Fitting (widthsOf d) (values m ++ (i ∷ last ∷ eadd ∷ skip ∷ replicate 6 0))) (sym shipped-is) (record { narrow = at });
       acceptable = g .memory;
       within = within;
       roomy = roomy;
     }
   where
-    at : (k : ℕ) → getD (values m ++ (i ∷ last ∷ eadd ∷ skip ∷ replicate 6 0)) k 0 < 2 ^ getD (widthsOf shipped) k 0
+    at : (k : ℕ) → getD (values m ++ (i ∷ last ∷ eadd ∷ skip ∷ replicate 6 0)) k 0 < 2 ^ getD (widthsOf tree) k 0
     at zero = g .lac
     at (suc zero) = g .pc
     at (suc (suc zero)) = g .run

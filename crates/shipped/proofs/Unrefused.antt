@@ -18,10 +18,9 @@ use Rattle.emulator.specs.Emulate.{emulate}
 use Rattle.text_limits.specs.Limits.{mostRegisters}
 use Rattle.description.specs.Description as text
 use Rattle.evaluator.specs.Evaluate.{Report, refused, finished, widthsOf, check, evaluateOf, evaluate}
-use Rattle.pdp8_rows.specs.Text.{shippedText}
-use Rattle.pdp8_rows.specs.Shipped.{shipped}
+use Rattle.pdp8_rows.specs.Text.{shippedText, shipped}
 use Rattle.shipped.specs.Claim.{machinePart, Start, Same, cyclesOf, Claim, Together}
-use Rattle.pdp8_rows.proofs.Accepted.{shipped-accepted}
+use Rattle.pdp8_rows.proofs.Accepted.{shipped-read}
 use Rattle.shipped.proofs.Agree.{runs-agree}
 
 abbrev number : Report → ℕ
@@ -53,7 +52,7 @@ module _ (m : Machine) (registers memory : List ℕ) (budget : ℕ) (list : List
   unfolding evaluate evaluateOf
   unrefused e =
       passes (check shipped registers memory budget list) (finished (cyclesOf registers memory budget) list) registers memory list
-      (ap (λ (a : text.Answer). number (evaluateOf a registers memory budget list)) (sym shipped-accepted) ∙ e)
+      (ap (λ (a : text.Answer). number (evaluateOf a registers memory budget list)) (sym shipped-read) ∙ e)
 
   -- what the emulator refuses, the evaluator refuses too: so this is wherever neither refuses
   pub unrefused-agree : length registers ≡ mostRegisters → machinePart registers ≡ values m

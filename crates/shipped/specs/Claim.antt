@@ -1,10 +1,10 @@
 -- "Demand 3 is one claim about two whole runs": of the emulator, and of the evaluator on the shipped description, from one start. It is said over the
--- definitions that the two entries' contracts cite.
+-- definitions that the two entries' contracts cite; the shipped description is what the reader reads in its text.
 -- Assumes nothing.
 use mathlib.Core.Path.{_≡_}
-use mathlib.Core.List.{List, _++_}
+use mathlib.Core.List.{List}
 use Prim.Native.Nat.{ℕ, _≤_}
-use lib.ListN.{length, take, drop}
+use lib.ListN.{length, take}
 use Rattle.state.specs.Limits.{budgetLimit, rowPlaces}
 use Rattle.state.specs.Acceptable.{Acceptable, Fitting}
 use Rattle.machine.specs.declared.Machine.{Machine}
@@ -17,21 +17,22 @@ use Rattle.description.specs.Description.{accepted, readText}
 use Rattle.cycles.specs.Run as cycles
 use Rattle.evaluator.specs.Evaluate as evaluator
 use Rattle.evaluator.specs.Evaluate.{evaluate, widthsOf}
-use Rattle.pdp8_rows.specs.Text.{shippedText}
-use Rattle.pdp8_rows.specs.Shipped.{shipped}
+use Rattle.pdp8_rows.specs.Text.{shippedText, shipped}
 
 -- the machine registers among the evaluator's places: "in this order, which begins the shipped description too"
 abbrev pub machinePart : List ℕ → List ℕ
 machinePart registers = take (length widths) registers
 
--- A start that meets no refusal: "Memory that meets neither 11 nor 12 is acceptable; a value fits a register if it is no wider". The first of "the
--- evaluator's sixteen places" are the machine's registers; "A shipped description's registers that the emulator lacks are its working registers"; in the
--- unused part only 0 fits.
+-- a start of both runs that meets no refusal
 pub record Start (m : Machine) (registers memory : List ℕ) (budget : ℕ) (list : List ℕ) : Type 0 where
+  -- "the evaluator's sixteen places": the machine's registers, then "A shipped description's registers that the emulator lacks", "its working registers"
   pub places : length registers ≡ mostRegisters
   pub machine : machinePart registers ≡ values m
+  -- "a value fits a register if it is no wider"; in the unused part only 0 fits
   pub fitting : Fitting (widthsOf shipped) registers
+  -- "Memory that meets neither 11 nor 12 is acceptable"
   pub acceptable : Acceptable memory
+  -- neither "14 budget above 1,000,000" nor "15 (evaluator) row list shorter than 128 places"
   pub within : budget ≤ budgetLimit
   pub roomy : rowPlaces ≤ length list
 
@@ -42,21 +43,18 @@ pub record Same (a : emulator.Report) (b : evaluator.Report) : Type 0 where
   pub reason : b .reason ≡ a .reason
   pub steps : b .steps ≡ a .steps
 
--- the cycles of the shipped rows
+-- the run by cycles of the shipped rows
 abbrev pub cyclesOf : List ℕ → List ℕ → ℕ → cycles.Run
 cyclesOf registers memory budget = cycles.run shipped budget (record { registers = registers; memory = memory })
 
 -- what holds of the two runs from a start
 pub record Claim (m : Machine) (registers memory : List ℕ) (budget : ℕ) (list : List ℕ) : Type 0 where
-  -- the reader accepts the shipped text, as these rows
+  -- "Every description we ship keeps the rules for its text, and the reader accepts it"
   pub read : readText shippedText ≡ accepted shipped
-  -- neither refuses: the answers are those of the run by the machine's steps and of the run by the rows' cycles
+  -- neither refuses: the one answer is that of the run by the machine's steps, the other, its row list included, that of the run by the rows' cycles
   pub emulated : emulate m memory budget ≡ emulator.finished (steps.run budget (start m memory))
   pub evaluated : evaluate shippedText registers memory budget list ≡ evaluator.finished (cyclesOf registers memory budget) list
   pub same : Same (emulate m memory budget) (evaluate shippedText registers memory budget list)
-  -- "The evaluator lists the rows that acted in its last cycle, rising; later places stay"
-  pub rows : evaluate shippedText registers memory budget list .list
-      ≡ cyclesOf registers memory budget .acted ++ drop (length (cyclesOf registers memory budget .acted)) list
 
 -- the two programs' own answers, each on its own memory: what each is, and that they are the same wherever the two memories hold the same words, the evaluator's
 -- first six registers are the machine's, and nothing is refused

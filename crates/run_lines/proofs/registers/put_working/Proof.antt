@@ -7,7 +7,7 @@ use lib.ListN.{length}
 use Rattle.characters.specs.Ascii.{ascii}
 use Rattle.page.proofs.Writing.{written-none, written-then}
 use Rattle.run_lines.specs.Registers.{pageBytes}
-use Rattle.run_lines.proofs.RegisterLines.{register-end, working-values}
+use Rattle.run_lines.proofs.RegisterLines.{register-end, working-registers, working-values}
 use Rattle.run_lines.proofs.registers.put_working.Statement.{statement}
 use Rattle.run_lines.proofs.registers.put_working.Tie as tie
 
@@ -65,7 +65,7 @@ returns c = let eadd = c .before .before .before in
     let last = eadd .before .before .before in
     let i = last .before .before .before in
     let start = i .before .before .before in
-    rw (working-values (start .args .t3) (sixteen start))
+    rw (working-registers, working-values (start .args .t3) (sixteen start))
     (written-then _ _ (i .put-register .ensures)
     (written-then _ _ (last .put-register2 .ensures)
     (written-then _ _ (eadd .put-register3 .ensures)

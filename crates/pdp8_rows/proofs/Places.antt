@@ -23,8 +23,9 @@ pub record Fit (w : Work) : Type 0 where
   pub skip : w .skip < 2
   pub rest : (k : ℕ) → getD (w .rest) k 0 < 2 ^ 0
 
-abbrev pub held : State → Work → rows.State
-held o w =
+-- the machine's state and the working registers, in the places that the rows know them by
+abbrev pub inPlaces : State → Work → rows.State
+inPlaces o w =
     record {
       registers =
           o .lac ∷ o .pc ∷ o .run ∷ o .enable ∷ o .request ∷ o .switches ∷ w .i ∷ w .last ∷ w .eadd ∷ w .skip ∷ w .rest;

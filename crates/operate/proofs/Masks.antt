@@ -39,19 +39,17 @@ xor-ac lac =
 all : {lac : ℕ} → lac < 2 ^ lacBits → bitXor lac 0o17777 ≡ complement lacBits lac
 all {lac} h = let m = and-lac h in let s = xor-add-and lac 0o17777 in omega (arith, m, s)
 
-by-sum : {lac : ℕ} → lac < 2 ^ lacBits
-    → complement lacBits lac ≡ (lac / 2 ^ wordBits * 2 ^ wordBits + complement wordBits (lac % 2 ^ wordBits) + 2 ^ wordBits) % 2 ^ lacBits
-by-sum {lac} h =
-    elim (decLt lac (2 ^ wordBits)) [
-      | yes low ↦ omega (arith, h, low)
-      | no high ↦ (
-        let one : lac / 2 ^ wordBits ≡ 1 = omega (arith, h, high) in
-        let same : complement lacBits lac ≡ complement wordBits (lac % 2 ^ wordBits) = omega (arith, h, one) in
-        same
-        ∙ sym (join-right lacBits 1 (omega arith))
-        ∙ ap (λ (n : ℕ). n % 2 ^ lacBits) (omega (arith, one))
-      )
-    ]
+abbrev summed : ℕ → ℕ
+summed lac = lac / 2 ^ wordBits * 2 ^ wordBits + complement wordBits (lac % 2 ^ wordBits) + 2 ^ wordBits
+
+-- where L is 1 the sum passes 8,192
+over : {lac : ℕ} → lac < 2 ^ lacBits → lac / 2 ^ wordBits ≡ 1 → complement lacBits lac ≡ summed lac % 2 ^ lacBits
+over {lac} h one =
+    let same : complement lacBits lac ≡ complement wordBits (lac % 2 ^ wordBits) = omega (arith, h, one) in
+    same ∙ sym (join-right lacBits 1 (omega arith)) ∙ ap (λ (n : ℕ). n % 2 ^ lacBits) (omega (arith, one))
+
+by-sum : {lac : ℕ} → lac < 2 ^ lacBits → complement lacBits lac ≡ summed lac % 2 ^ lacBits
+by-sum {lac} h = elim (decLt lac (2 ^ wordBits)) [ yes low ↦ omega (arith, h, low) | no high ↦ over h (omega (arith, h, high)) ]
 
 pub xor-lac : {lac x : ℕ} → lac < 2 ^ lacBits → withAc lac (complement wordBits (ac lac)) ≡ x → bitXor lac 0o17777 ≡ withLink x (complement 1 (link x))
 xor-lac {lac} h made =

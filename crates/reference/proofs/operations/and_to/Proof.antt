@@ -35,8 +35,8 @@ returns c =
     let load = c .before .before .before .before .before .before in
     let begin = load .before .before .before .args in
     let s = at (begin .p) (now (begin .memory)) in
-    let narrow : bitAnd (s .lac % 4096) (load .load .result) < 2 ^ wordBits =
-        let h = and-le-l (s .lac % 4096) (load .load .result) in omega arith in
+    let h = and-le-l (s .lac % 4096) (load .load .result) in
+    let narrow : bitAnd (s .lac % 4096) (load .load .result) < 2 ^ wordBits = omega (arith, h) in
     c .before .before .interrupt-test .ensures
     ∙ ap (λ (l : ℕ). interruptTest (withLac l s)) (ac-written (s .lac) narrow)
     ∙ ap₂ (λ (a w : ℕ). interruptTest (withLac (withAc (s .lac) (bitAnd a w)) s)) (sym (ac-is (s .lac))) (load .load .ensures)

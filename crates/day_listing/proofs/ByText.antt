@@ -6,7 +6,7 @@ use mathlib.Core.List.{List}
 use Prim.Native.Nat.{ℕ, zero, suc}
 use native.Mathlib.Omega.{arith}
 use borrow.Author.Tests.{ne-eqb}
-use Rattle.word.specs.Choice.{pick, choose}
+use Rattle.word.specs.Choice.{on, pick}
 use Rattle.state.specs.Checks.{checkMemory}
 use Rattle.state.specs.declared.Verdict.{Verdict}
 use Rattle.state.specs.declared.Verdict.the-variants.{Fit}
@@ -24,7 +24,7 @@ module _ (s : Scan) (n : ℕ) (u : n ≡ unfitLine (s .scanner)) where
   checked = checkedListing (checkMemory (s .memory)) (s .memory)
 
   abbrev listed : ℕ → List ℕ
-  listed k = choose k (refusedLine k) checked
+  listed k = pick (on k) (refusedLine k) checked
 
   pub listed-refused : (n ≡ 0 → ⊥) → scanListing s ≡ refusedLine n
   unfolding scanListing

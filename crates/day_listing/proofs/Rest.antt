@@ -9,7 +9,7 @@ use native.Mathlib.Nat.{not-suc-le-zero}
 use native.Mathlib.Numerals.{add-one, sub-one}
 use native.Mathlib.Omega.{arith}
 use borrow.Author.Tests.{eq-eqb}
-use Rattle.word.specs.Choice.{on, choose}
+use Rattle.word.specs.Choice.{on, pick}
 use Rattle.state.specs.declared.Reason.the-variants.{Halted, Spent}
 use Rattle.machine.specs.State.{State, word, Good}
 use Rattle.pdp8.specs.Step.{step}
@@ -36,12 +36,12 @@ rest-on (suc left) done s t h e q =
     (append-assoc (stepLine (suc done) (s .pc) (word (s .pc) s) (step s .lac) (step s .run)) _ _)
 
 -- no step more, since RUN is 0 or the budget is done: the last line
-rest-halted : (left done : ℕ) (s : State) → on (s .run) ≡ false → rest left done s ≡ endLine done (choose (s .run) Spent Halted)
+rest-halted : (left done : ℕ) (s : State) → on (s .run) ≡ false → rest left done s ≡ endLine done (pick (on (s .run)) Spent Halted)
 unfolding stepLines runFrom
 rest-halted zero done s e = refl
 rest-halted (suc left) done s e = rw (e, stepLines, runFrom) (rw e)
 
-rest-spent : (done : ℕ) (s : State) → rest 0 done s ≡ endLine done (choose (s .run) Spent Halted)
+rest-spent : (done : ℕ) (s : State) → rest 0 done s ≡ endLine done (pick (on (s .run)) Spent Halted)
 unfolding stepLines runFrom
 rest-spent done s = refl
 
@@ -84,11 +84,11 @@ module _ {s₀ s : State} {page₀ page after : List ℕ} {at₀ at done end : �
       })
 
   -- the last line
-  pub listed-all : (budget ≤ done) ⊎ (s .run ≡ 0) → Written (endLine done (choose (s .run) Spent Halted)) page at after end
+  pub listed-all : (budget ≤ done) ⊎ (s .run ≡ 0) → Written (endLine done (pick (on (s .run)) Spent Halted)) page at after end
       → Written (rest budget 0 s₀) page₀ at₀ after end
   listed-all d w =
       rw (l .whole) (rw (last d) (written-then (l .text) _ (l .written) w))
     where
-      last : (budget ≤ done) ⊎ (s .run ≡ 0) → rest (budget - done) done s ≡ endLine done (choose (s .run) Spent Halted)
+      last : (budget ≤ done) ⊎ (s .run ≡ 0) → rest (budget - done) done s ≡ endLine done (pick (on (s .run)) Spent Halted)
       last (inl h) = let none : budget - done ≡ 0 = omega (arith, l .count) in rw none (rest-spent done s)
       last (inr h) = rest-halted (budget - done) done s (ap not (eq-eqb (s .run) 0 h))

@@ -3,7 +3,7 @@
 use mathlib.Core.List.{List, [], _∷_, _++_}
 use mathlib.Core.Bool.{true, false}
 use Prim.Native.Nat.{ℕ, zero, suc}
-use Rattle.word.specs.Choice.{on, choose}
+use Rattle.word.specs.Choice.{on, pick}
 use Rattle.state.specs.Checks.{checkMemory}
 use Rattle.state.specs.declared.Verdict.{Verdict}
 use Rattle.state.specs.declared.Verdict.the-variants.{Fit, Unfit}
@@ -65,4 +65,4 @@ checkedListing (Unfit why) memory = []
 -- the output where the input ends, for whatever scanner and memory are held then. The law `scan-listing` says that after a text this is the text's.
 unfoldable pub scanListing : Scan → List ℕ
 scanListing s =
-    choose (unfitLine (s .scanner)) (refusedLine (unfitLine (s .scanner))) (checkedListing (checkMemory (s .memory)) (s .memory))
+    pick (on (unfitLine (s .scanner))) (refusedLine (unfitLine (s .scanner))) (checkedListing (checkMemory (s .memory)) (s .memory))

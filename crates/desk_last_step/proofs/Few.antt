@@ -1,21 +1,22 @@
 -- "at most three such lines": a step stores at most a word that it indexes by, the word that its op works on, and PC where it is interrupted.
 -- Assumes nothing.
+use mathlib.Core.Path.{sym, subst}
 use mathlib.Core.Bool.{_&&_}
 use mathlib.Core.List.{List}
-use Prim.Native.Nat.{ℕ, _+_, _/_, _≤_}
+use Prim.Native.Nat.{ℕ, _+_, _≤_}
 use native.Mathlib.Omega.{arith}
 use lib.Dec.{eqb}
 use lib.ListN.{length, getD, set}
-use Rattle.laws.proofs.Tests.{by-case}
 use Rattle.word.specs.Choice.{on}
 use Rattle.word.specs.Word.{next}
-use Rattle.word.proofs.Choice.{pick-either, choose-either}
+use Rattle.word.proofs.Choice.{pick-either}
 use Rattle.machine.specs.State.{State, word, withPc, withMemory, ac}
 use Rattle.machine.specs.Instruction.{op, flag}
 use Rattle.machine.specs.Interrupt.{ion, iof, interruptTest, inputOutput}
 use Rattle.operate.specs.Operate.{group1, group2, group3, operate}
-use Rattle.reference.specs.Address.{firstAddress, indexed, effective, afterIndexing}
+use Rattle.reference.specs.Address.{firstAddress, isIndex, indexed, effective, afterIndexing}
 use Rattle.reference.specs.Reference.{operation, reference}
+use Rattle.reference.proofs.Ops.{by-op}
 use Rattle.pdp8.specs.Step.{execute, step}
 use Rattle.desk_last_step.specs.LastStep.{changeLines, wordLineBytes, changeLinesBytes}
 use Rattle.desk_last_step.proofs.Changes.{unchanged, stored-size}
@@ -37,33 +38,32 @@ module _ (before : List ℕ) (n : ℕ) where
   interrupt-few : (s : State) → FewIn before n s → FewIn before (n + wordLineBytes) (interruptTest s)
   unfolding interruptTest
   interrupt-few s h =
-      by-case (FewIn before (n + wordLineBytes)) (on (s .enable) && on (s .request)) (λ t. stores (s .memory) 0 (s .pc) h) (λ t. more (s .memory) h)
+      pick-either (FewIn before (n + wordLineBytes)) (on (s .enable) && on (s .request)) (stores (s .memory) 0 (s .pc) h) (more (s .memory) h)
 
   indexed-few : (a : ℕ) (memory : List ℕ) → Few before n memory → Few before (n + wordLineBytes) (indexed a memory)
   unfolding indexed
   indexed-few a memory h =
-      pick-either (Few before (n + wordLineBytes)) (eqb (a / 8) 1) (stores memory a (next (getD memory a 0)) h) (more memory h)
+      pick-either (Few before (n + wordLineBytes)) (isIndex a) (stores memory a (next (getD memory a 0)) h) (more memory h)
 
   indexing-few : (i last : ℕ) (memory : List ℕ) → Few before n memory → Few before (n + wordLineBytes) (afterIndexing i last memory)
   unfolding afterIndexing
   indexing-few i last memory h =
-      choose-either (Few before (n + wordLineBytes)) (flag 3 i) (indexed-few (firstAddress i last) memory h) (more memory h)
+      pick-either (Few before (n + wordLineBytes)) (on (flag 3 i)) (indexed-few (firstAddress i last) memory h) (more memory h)
 
   operation-few : (k e : ℕ) (s : State) → FewIn before n s → FewIn before (n + wordLineBytes) (operation k e s)
-  unfolding operation
   operation-few k e s h =
       let kept = more (s .memory) h in
       let P = FewIn before (n + wordLineBytes) in
-      by-case P (eqb k 0) (λ t. kept)
-      (λ t. by-case P (eqb k 1) (λ t. kept)
-      (λ t. by-case P (eqb k 2) (λ t. stores (s .memory) e (next (word e s)) h)
-      (λ t. by-case P (eqb k 3) (λ t. stores (s .memory) e (ac (s .lac)) h)
-      (λ t. by-case P (eqb k 4) (λ t. stores (s .memory) e (s .pc) h) (λ t. kept)))))
+      subst P (sym (by-op k e s))
+      (pick-either P (eqb k 0) kept
+      (pick-either P (eqb k 1) kept
+      (pick-either P (eqb k 2) (stores (s .memory) e (next (word e s)) h)
+      (pick-either P (eqb k 3) (stores (s .memory) e (ac (s .lac)) h) (pick-either P (eqb k 4) (stores (s .memory) e (s .pc) h) kept)))))
 
   operate-few : (i : ℕ) (s : State) → FewIn before n s → FewIn before n (operate i s)
   unfolding operate group1 group2 group3
   operate-few i s h =
-      by-case (FewIn before n) (on (flag 3 i)) (λ t. by-case (FewIn before n) (on (flag 11 i)) (λ t. h) (λ t. h)) (λ t. h)
+      pick-either (FewIn before n) (on (flag 3 i)) (pick-either (FewIn before n) (on (flag 11 i)) h h) h
 
 reference-few : (before : List ℕ) (n i last : ℕ) (s : State) → FewIn before n s → FewIn before (n + wordLineBytes + wordLineBytes) (reference i last s)
 unfolding reference
@@ -74,16 +74,15 @@ reference-few before n i last s h =
 inputOutput-few : (before : List ℕ) (n i : ℕ) (s : State) → FewIn before n s → FewIn before (n + wordLineBytes) (inputOutput i s)
 unfolding inputOutput
 inputOutput-few before n i s h =
-    by-case (FewIn before (n + wordLineBytes)) (eqb i ion) (λ t. more before n (s .memory) h)
-    (λ t. interrupt-few before n _ (by-case (FewIn before n) (eqb i iof) (λ t. h) (λ t. h)))
+    pick-either (FewIn before (n + wordLineBytes)) (eqb i ion) (more before n (s .memory) h)
+    (interrupt-few before n _ (pick-either (FewIn before n) (eqb i iof) h h))
 
 execute-few : (before : List ℕ) (i last : ℕ) (s : State) → FewIn before 0 s → FewIn before changeLinesBytes (execute i last s)
 unfolding execute
 execute-few before i last s h =
-    by-case (FewIn before changeLinesBytes) (eqb (op i) 6)
-    (λ t. omega (arith, inputOutput-few before 0 i s h))
-    (λ t. interrupt-few before 40 _
-    (by-case (FewIn before 40) (eqb (op i) 7) (λ t. omega (arith, operate-few before 0 i s h)) (λ t. reference-few before 0 i last s h)))
+    pick-either (FewIn before changeLinesBytes) (eqb (op i) 6) (omega (arith, inputOutput-few before 0 i s h))
+    (interrupt-few before 40 _
+    (pick-either (FewIn before 40) (eqb (op i) 7) (omega (arith, operate-few before 0 i s h)) (reference-few before 0 i last s h)))
 
 pub step-few : (s : State) → length (changeLines 0 (s .memory) (step s .memory)) ≤ changeLinesBytes
 unfolding step

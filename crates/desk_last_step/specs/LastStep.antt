@@ -4,7 +4,7 @@ use mathlib.Core.List.{List, [], _∷_, _++_}
 use Prim.Native.Nat.{ℕ, suc}
 use lib.Dec.{eqb}
 use lib.ListN.{getD}
-use Rattle.word.specs.Choice.{pick, choose}
+use Rattle.word.specs.Choice.{on, pick}
 use Rattle.characters.specs.Ascii.{ascii, tab, lineFeed}
 use Rattle.page.specs.Text.{octal}
 use Rattle.desk_mnemonics.specs.Mnemonics.{mnemonic}
@@ -33,7 +33,7 @@ changeLines address (x ∷ before) (y ∷ after) = changeLine address x y ++ cha
 
 -- by PC and memory before the step, and memory after it; "With 0 steps there is no `last`, no `word`"
 unfoldable pub lastStep : ℕ → ℕ → List ℕ → List ℕ → List ℕ
-lastStep steps pc before after = choose steps (lastLine pc (getD before pc 0) ++ changeLines 0 before after) []
+lastStep steps pc before after = pick (on steps) (lastLine pc (getD before pc 0) ++ changeLines 0 before after) []
 
 -- the most bytes that the line of an instruction has, that of a word, and all lines of a step: "at most three" of words
 abbrev pub lastLineBytes : ℕ

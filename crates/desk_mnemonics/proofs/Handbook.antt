@@ -3,7 +3,7 @@
 use mathlib.Core.Path.{_≡_, refl}
 use mathlib.Core.List.{List, [], _∷_, _++_, map}
 use Prim.Native.Nat.{ℕ, zero, suc, _+_}
-use Rattle.word.specs.Choice.{choose}
+use Rattle.word.specs.Choice.{on, pick}
 use Rattle.word.specs.Word.{wordBits, bits}
 use Rattle.machine.specs.Instruction.{flag}
 use Rattle.reference.specs.Address.{firstAddress}
@@ -13,20 +13,20 @@ use Rattle.desk_mnemonics.specs.Mnemonics.{names, namesOf, spaced, mnemo
 
 -- "a name for each bit that selects something"
 abbrev for : ℕ → ℕ → List ℕ → List (List ℕ)
-for k i name = choose (flag k i) (name ∷ []) []
+for k i name = pick (on (flag k i)) (name ∷ []) []
 
 -- "bit 3 = 0"
 abbrev group1 : ℕ → List (List ℕ)
 group1 i =
     for 4 i (ascii "CLA") ++ for 5 i (ascii "CLL") ++ for 6 i (ascii "CMA") ++ for 7 i (ascii "CML") ++ for 11 i (ascii "IAC")
-    ++ for 9 i (choose (flag 10 i) (ascii "RTL") (ascii "RAL"))
-    ++ for 8 i (choose (flag 10 i) (ascii "RTR") (ascii "RAR"))
+    ++ for 9 i (pick (on (flag 10 i)) (ascii "RTL") (ascii "RAL"))
+    ++ for 8 i (pick (on (flag 10 i)) (ascii "RTR") (ascii "RAR"))
 
 -- "bit 3 = 1, bit 11 = 0": "or `SKP` where none of these three is 1"
 abbrev skips : ℕ → List (List ℕ)
 skips i =
-    choose (flag 8 i)
-    (choose (bits wordBits 5 7 i) (for 5 i (ascii "SPA") ++ for 6 i (ascii "SNA") ++ for 7 i (ascii "SZL")) (ascii "SKP" ∷ []))
+    pick (on (flag 8 i))
+    (pick (on (bits wordBits 5 7 i)) (for 5 i (ascii "SPA") ++ for 6 i (ascii "SNA") ++ for 7 i (ascii "SZL")) (ascii "SKP" ∷ []))
     (for 5 i (ascii "SMA") ++ for 6 i (ascii "SZA") ++ for 7 i (ascii "SNL"))
 
 abbrev group2 : ℕ → List (List ℕ)
@@ -37,7 +37,7 @@ abbrev group3 : ℕ → List (List ℕ)
 group3 i = for 4 i (ascii "CLA")
 
 abbrev byBits : ℕ → List (List ℕ)
-byBits i = choose (flag 3 i) (choose (flag 11 i) (group3 i) (group2 i)) (group1 i)
+byBits i = pick (on (flag 3 i)) (pick (on (flag 11 i)) (group3 i) (group2 i)) (group1 i)
 
 -- n numbers from a first on, the greatest first: 512 from 7000 on are the instructions of op 7
 abbrev below : ℕ → ℕ → List ℕ

@@ -5,7 +5,7 @@ use mathlib.Core.List.{List, [], _∷_, _++_}
 use Prim.Native.Nat.{ℕ}
 use lib.Bits.{bitAnd}
 use lib.Dec.{eqb, ltb}
-use Rattle.word.specs.Choice.{pick, choose}
+use Rattle.word.specs.Choice.{on, pick}
 use Rattle.machine.specs.Instruction.{op, ib}
 use Rattle.reference.specs.Address.{firstAddress}
 use Rattle.characters.specs.Ascii.{ascii}
@@ -83,7 +83,7 @@ parted none (w ∷ ws) = w ++ spaced ws
 
 -- "then `I` if ib is 1", between spaces
 abbrev pub operandMark : ℕ → List ℕ
-operandMark i = choose (ib i) (ascii " I ") (ascii " ")
+operandMark i = pick (on (ib i)) (ascii " I ") (ascii " ")
 
 -- ", then the first address in four octal digits, page and page address joined, before indirection"
 abbrev pub operand : ℕ → ℕ → List ℕ

@@ -6,10 +6,11 @@ use state::Refusal;
 use state::Verdict;
 use state::WORD_BITS;
 ghost use mathlib.Core.Path.{_≡_};
-ghost use Rattle.word.specs.Choice.{choose};
+ghost use Rattle.word.specs.Choice.{on, pick};
 ghost use Rattle.state.specs.Checks.{checkState};
 ghost use Rattle.state.specs.declared.Reason.the-variants.{Halted, Spent};
-ghost use Rattle.machine.specs.State.{start, values, widths, narrowed, Narrow, Good};
+ghost use Rattle.machine.specs.State.{start, values, widths, Good};
+ghost use Rattle.machine.specs.Processor.{narrowed, Narrow};
 ghost use Rattle.pdp8.specs.Run.{run};
 ghost use Rattle.emulator.specs.Emulate.{report, finished as finishedRun, emulate as emulation};
 
@@ -65,7 +66,7 @@ fn closed(p: Processor) -> Machine
 
 // Why a run ended.
 fn reason(run: u64) -> Reason
-    ensures { λ r. ⌜ r ≡ choose run Spent Halted ⌝ }
+    ensures { λ r. ⌜ r ≡ pick (on run) Spent Halted ⌝ }
 {
     if run != 0 {
         Reason::Spent

@@ -15,7 +15,7 @@ use Rattle.state.specs.Limits.{memoryWords, budgetLimit}
 use Rattle.state.specs.Acceptable.{Acceptable, Fitting}
 use Rattle.state.specs.Refusals.{orElse}
 use Rattle.state.specs.Refusals as state
-use Rattle.state.specs.Checks.{firstUnfit, checkMemory, checkBudget, checkState, checkRowList}
+use Rattle.state.specs.Checks.{firstTooWide, checkMemory, checkBudget, checkState, checkRowList}
 use Rattle.state.specs.declared.Reason.{Reason}
 use Rattle.state.specs.declared.Refusal.{Refusal}
 use Rattle.state.specs.declared.Refusal.the-variants.{Register}
@@ -57,18 +57,18 @@ use Rattle.evaluator.specs.Padded.{widthAt, padded, checkPadded}
 use Rattle.evaluator.proofs.Padding.{padded-at, padded-past}
 
 -- the checks go by each place's width alone
-unfit-ext : (f g : ℕ → ℕ) → ((k : ℕ) → f k ≡ g k) → (at : ℕ) (xs : List ℕ) → firstUnfit f at xs ≡ firstUnfit g at xs
-unfolding firstUnfit
-unfit-ext f g e at [] = refl
-unfit-ext f g e at (x ∷ xs) =
-    ap (λ (w : ℕ). elim (fits w x) [ true ↦ firstUnfit f (suc at) xs | false ↦ at ]) (e at)
-    ∙ ap (λ (n : ℕ). elim (fits (g at) x) [ true ↦ n | false ↦ at ]) (unfit-ext f g e (suc at) xs)
+too-wide-ext : (f g : ℕ → ℕ) → ((k : ℕ) → f k ≡ g k) → (at : ℕ) (xs : List ℕ) → firstTooWide f at xs ≡ firstTooWide g at xs
+unfolding firstTooWide
+too-wide-ext f g e at [] = refl
+too-wide-ext f g e at (x ∷ xs) =
+    ap (λ (w : ℕ). elim (fits w x) [ true ↦ firstTooWide f (suc at) xs | false ↦ at ]) (e at)
+    ∙ ap (λ (n : ℕ). elim (fits (g at) x) [ true ↦ n | false ↦ at ]) (too-wide-ext f g e (suc at) xs)
 
 state-ext : (v w : List ℕ) → ((k : ℕ) → getD v k 0 ≡ getD w k 0) → (values memory : List ℕ) (budget : ℕ)
     → checkState v values memory budget ≡ checkState w values memory budget
 state-ext v w e values memory budget =
     ap (λ (n : ℕ). orElse (checkMemory memory) (orElse (pick (ltb n (length values)) (Unfit (Register n)) Fit) (checkBudget budget)))
-    (unfit-ext (λ k. getD v k 0) (λ k. getD w k 0) e 0 values)
+    (too-wide-ext (λ k. getD v k 0) (λ k. getD w k 0) e 0 values)
 
 -- a text, what the reader answers, and the tables that it leaves
 module _ (text : List ℕ) (r : reader.Answer) {code₀ code table₀ table : List ℕ} (answers : Answers text (readText text) r code₀ code table₀ table) where

@@ -8,7 +8,7 @@ use native.Mathlib.Omega.{arith}
 use lib.Dec.{lit<}
 use lib.ListN.{length, take, drop, length-append}
 use lib.Seq.{take-append-seam}
-use Rattle.word.specs.Choice.{choose}
+use Rattle.word.specs.Choice.{on, pick}
 use Rattle.state.specs.Limits.{budgetLimit, rowPlaces}
 use Rattle.state.specs.Checks.{checkState}
 use Rattle.state.specs.declared.Reason.{Reason}
@@ -48,7 +48,7 @@ use Rattle.explanation.proofs.LastSteps.{steps-within, last-step, no-st
 -- the bytes that tell of a run: the registers after it, its steps, PC and memory before the last and memory after it, the registers of the rows and those that acted
 abbrev text : Machine → ℕ → ℕ → List ℕ → List ℕ → List ℕ → List ℕ → List ℕ
 text after steps pc before memory places rows =
-    endLine steps (choose (after .run) Spent Halted)
+    endLine steps (pick (on (after .run)) Spent Halted)
     ++ lastStep steps pc before memory
     ++ registerLines machineRegisters (values after)
     ++ registerLines workingRegisters (workingValues places)

@@ -6,7 +6,7 @@ use mathlib.Core.List.{List}
 use Prim.Native.Nat.{ℕ, zero, suc}
 use native.Mathlib.Omega.{arith}
 use borrow.Author.Tests.{ne-eqb}
-use Rattle.word.specs.Choice.{pick, choose}
+use Rattle.word.specs.Choice.{on, pick}
 use Rattle.state.specs.declared.Verdict.{Verdict}
 use Rattle.machine.specs.State.{start, Good}
 use Rattle.emulator.proofs.Starts.{good-checked}
@@ -24,7 +24,7 @@ reply q = answered (machineOf (q .registers)) (q .memory) (q .budget)
 -- n is the first unfit line, or 0
 module _ (s : Scan) (n : ℕ) (u : n ≡ unfitLine s) where
   abbrev printed : ℕ → List ℕ
-  printed k = choose k (refusedLine k) (reply (s .inquiry))
+  printed k = pick (on k) (refusedLine k) (reply (s .inquiry))
 
   pub print-refused : (n ≡ 0 → ⊥) → scanExplanation s ≡ refusedLine n
   unfolding scanExplanation

@@ -4,7 +4,7 @@ use mathlib.Core.Path.{_≡_}
 use mathlib.Core.List.{List, [], _++_}
 use Prim.Native.Nat.{ℕ, zero, suc, _-_, _<_, _≤_}
 use lib.ListN.{length, getD, replicate}
-use Rattle.word.specs.Choice.{choose}
+use Rattle.word.specs.Choice.{on, pick}
 use Rattle.state.specs.Checks.{checkState}
 use Rattle.state.specs.declared.Verdict.{Verdict}
 use Rattle.state.specs.declared.Verdict.the-variants.{Fit, Unfit}
@@ -74,7 +74,7 @@ answered m memory budget = checkedBy (checkState widths (values m) memory budget
 -- the output where the input ends, for whatever is held then. The law `scan-explanation` says that after a text this is the text's.
 unfoldable pub scanExplanation : Scan → List ℕ
 scanExplanation s =
-    choose (unfitLine s) (refusedLine (unfitLine s)) (answered (machineOf (s .inquiry .registers)) (s .inquiry .memory) (s .inquiry .budget))
+    pick (on (unfitLine s)) (refusedLine (unfitLine s)) (answered (machineOf (s .inquiry .registers)) (s .inquiry .memory) (s .inquiry .budget))
 
 -- PC in an answer of the emulator
 abbrev pub pcIn : Machine → emulator.Answer → ℕ

@@ -14,7 +14,7 @@ ghost use mathlib.Core.Path.{_≡_};
 ghost use mathlib.Core.List.{_++_};
 ghost use Prim.Native.Nat.{_-_, _≤_};
 ghost use lib.ListN.{length, take};
-ghost use Rattle.word.specs.Choice.{choose};
+ghost use Rattle.word.specs.Choice.{on, pick};
 ghost use Rattle.state.specs.declared.Reason.the-variants.{Halted, Spent};
 ghost use Rattle.machine.specs.State.{values};
 ghost use Rattle.page.specs.Written.{Page};
@@ -132,7 +132,7 @@ fn put_answer(
     n: usize,
 ) -> usize
     requires { ⌜ LastStep pc (now before) (now memory) ⌝ ∗ ⌜ n ≤ length (now list) ⌝ }
-    ensures { λ r. ⌜ Page (endLine steps (choose (m .run) Spent Halted) ++ lastStep steps pc (now (before .entry)) (now (memory .entry)) ++ registerLines machineRegisters (values m)
+    ensures { λ r. ⌜ Page (endLine steps (pick (on (m .run)) Spent Halted) ++ lastStep steps pc (now (before .entry)) (now (memory .entry)) ++ registerLines machineRegisters (values m)
         ++ registerLines workingRegisters (workingValues places) ++ rowLines (take n (now (list .entry)))) (now (page .entry)) (now (page .exit)) r ⌝ }
 {
     let step = last_lines::put_end_line(page, 0, steps, m.run as u64);

@@ -7,7 +7,7 @@ use Prim.Native.Nat.{ℕ, _+_, _*_, _%_, _^_}
 use lib.ListN.{set}
 use lib.Dec.{ltb}
 use lib.IntN.{ℤ}
-use Rattle.word.specs.Choice.{on, choose}
+use Rattle.word.specs.Choice.{on, pick}
 use Rattle.word.specs.Word.{wordBits}
 use Rattle.state.specs.Limits.{memoryWords}
 use Rattle.image.specs.Input.{form, clear}
@@ -68,7 +68,7 @@ scanOf text = pass scanByte begun text
 
 -- the first unfit line, where the text ends here: a line that has begun lacks its LF
 abbrev pub unfitLine : Scanner → ℕ
-unfitLine s = choose (s .refused) (s .refused) (choose (s .column) (s .line) 0)
+unfitLine s = pick (on (s .refused)) (s .refused) (pick (on (s .column)) (s .line) 0)
 
 -- what reading a chunk comes to, and what some text leaves
 abbrev pub Scanned : Scan → List ℕ → Scan → Type 0

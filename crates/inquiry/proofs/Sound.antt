@@ -10,7 +10,7 @@ use borrow.Author.Tests.{ltb-true}
 use Rattle.word.specs.Choice.{on}
 use Rattle.word.specs.Word.{wordBits}
 use Rattle.state.specs.Limits.{budgetLimit}
-use Rattle.state.specs.Checks.{firstUnfit}
+use Rattle.state.specs.Checks.{firstTooWide}
 use Rattle.state.specs.Acceptable.{Acceptable, Fitting}
 use Rattle.state.proofs.Accepted.{registers-fitting, store-acceptable, store-fitting}
 use Rattle.machine.specs.State.{widths}
@@ -81,7 +81,7 @@ after s [] d = d
 after s (b ∷ text) d = after (scanByte s b) text (byte s b d)
 
 ready-sound : Sound ready
-unfolding ready firstUnfit
+unfolding ready firstTooWide
 ready-sound = record { registers = registers-fitting widths (ready .registers) refl; budget = omega arith; memory = clear-acceptable }
 
 -- after every text

@@ -7,7 +7,7 @@ use Prim.Native.Nat.{ℕ}
 use lib.ListN.{length, take}
 use lib.Dec.{eqb, ltb}
 use lib.IntN.{ℤ}
-use Rattle.word.specs.Choice.{on, choose}
+use Rattle.word.specs.Choice.{on, pick}
 use Rattle.characters.specs.Ascii.{lineFeed}
 use Rattle.image.specs.Pass.{pass, Passed, Left, nextLine}
 use Rattle.image.specs.Read.{AfterRead}
@@ -72,7 +72,7 @@ scanOf text = pass scanByte begun text
 
 -- the first unfit line, where the text ends here: a line that has begun lacks its LF
 abbrev pub unfitLine : Scan → ℕ
-unfitLine s = choose (s .refused) (s .refused) (choose (length (s .part)) (s .line) 0)
+unfitLine s = pick (on (s .refused)) (s .refused) (pick (on (length (s .part))) (s .line) 0)
 
 -- what reading a chunk comes to, and what some text leaves
 abbrev pub Scanned : Scan → List ℕ → Scan → Type 0

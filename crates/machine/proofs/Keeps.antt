@@ -2,15 +2,17 @@
 -- op 6. The other ops are shown beside their definitions.
 -- Assumes nothing.
 use mathlib.Core.List.{List}
-use mathlib.Core.Bool.{Bool, true, false, _&&_}
+use mathlib.Core.Bool.{_&&_}
 use Prim.Native.Nat.{ℕ, _^_, _<_}
 use lib.Dec.{eqb, lit<}
 use Rattle.word.specs.Choice.{on}
 use Rattle.word.specs.Word.{wordBits}
+use Rattle.word.proofs.Choice.{pick-either}
 use Rattle.state.specs.Acceptable.{Acceptable}
 use Rattle.state.proofs.Accepted.{store-acceptable}
 use Rattle.machine.specs.declared.Processor.{Processor}
-use Rattle.machine.specs.State.{State, at, Good, Narrow, stored, withLac, withPc, withRun, withEnable, withMemory, lacBits}
+use Rattle.machine.specs.State.{State, Good, stored, withLac, withPc, withRun, withEnable, withMemory, lacBits}
+use Rattle.machine.specs.Processor.{at, Narrow}
 use Rattle.machine.specs.Interrupt.{interruptTest, inputOutput, ion, iof}
 
 pub lac-good : {s : State} {x : ℕ} → x < 2 ^ lacBits → Good s → Good (withLac x s)
@@ -36,20 +38,15 @@ memory-good h g =
 pub stored-good : {s : State} (a : ℕ) {x : ℕ} → x < 2 ^ wordBits → Good s → Good (stored a x s)
 stored-good a h g = memory-good (store-acceptable a h (g .memory)) g
 
--- a case by a test is good where both of its ways are
-pub either : (b : Bool) {s t : State} → Good s → Good t → Good (elim b [ true ↦ s | false ↦ t ])
-either true g h = g
-either false g h = h
-
 pub interrupt-good : {s : State} → Good s → Good (interruptTest s)
 unfolding interruptTest
 interrupt-good {s} g =
-    either (on (s .enable) && on (s .request)) (enable-good (lit< tt) (pc-good (lit< tt) (stored-good 0 (g .pc) g))) g
+    pick-either Good (on (s .enable) && on (s .request)) (enable-good (lit< tt) (pc-good (lit< tt) (stored-good 0 (g .pc) g))) g
 
 pub inputOutput-good : (i : ℕ) {s : State} → Good s → Good (inputOutput i s)
 unfolding inputOutput
 inputOutput-good i g =
-    either (eqb i ion) (enable-good (lit< tt) g) (interrupt-good (either (eqb i iof) (enable-good (lit< tt) g) g))
+    pick-either Good (eqb i ion) (enable-good (lit< tt) g) (interrupt-good (pick-either Good (eqb i iof) (enable-good (lit< tt) g) g))
 
 -- the registers of a good state
 pub good-narrow : {p : Processor} {memory : List ℕ} → Good (at p memory) → Narrow p

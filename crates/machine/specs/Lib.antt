@@ -1,3 +1,4 @@
 pub mod State
+pub mod Processor
 pub mod Instruction
 pub mod Interrupt

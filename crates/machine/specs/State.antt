@@ -1,12 +1,11 @@
 -- The state of the machine: its six registers and memory; the parts of LAC; and what a state is that keeps every width.
 -- Assumes nothing.
 use mathlib.Core.List.{List, [], _∷_}
-use Prim.Native.Nat.{ℕ, _+_, _*_, _/_, _^_, _<_}
+use Prim.Native.Nat.{ℕ, _^_, _<_}
 use lib.ListN.{getD, set}
-use Rattle.word.specs.Word.{wordBits, bits}
+use Rattle.word.specs.Word.{wordBits, bits, withBits}
 use Rattle.state.specs.Acceptable.{Acceptable}
 use Rattle.machine.specs.declared.Machine.{Machine}
-use Rattle.machine.specs.declared.Processor.{Processor}
 
 -- "Memory M: 4,096 words of 12 bits. Machine registers, in this order ..: LAC (13 bits; L is its bit 0, AC its bits 1 to 12), PC (12),
 -- RUN (1), INTERRUPT.ENABLE (1), INTERRUPT.REQUEST (1), SWITCHES (12)"
@@ -35,15 +34,6 @@ values m = m .lac ∷ m .pc ∷ m .run ∷ m .enable ∷ m .request ∷ m .switc
 abbrev pub start : Machine → List ℕ → State
 start m memory =
     record { lac = m .lac; pc = m .pc; run = m .run; enable = m .enable; request = m .request; switches = m .switches; memory = memory }
-
--- the registers that the emulator works with, as a caller's
-abbrev pub narrowed : Processor → Machine
-narrowed p = record { lac = p .lac; pc = p .pc; run = p .run; enable = p .enable; request = p .request; switches = p .switches }
-
--- the state that they and memory make
-abbrev pub at : Processor → List ℕ → State
-at p memory =
-    record { lac = p .lac; pc = p .pc; run = p .run; enable = p .enable; request = p .request; switches = p .switches; memory = memory }
 
 -- the registers of a state, as a caller gets them back
 abbrev pub registers : State → Machine
@@ -84,12 +74,12 @@ link lac = bits lacBits 0 0 lac
 abbrev pub ac : ℕ → ℕ
 ac lac = bits lacBits 1 12 lac
 
--- LAC with AC cleared, and with x as AC
-abbrev pub withoutAc : ℕ → ℕ
-withoutAc lac = lac / 2 ^ wordBits * 2 ^ wordBits
+-- LAC with x as L, and with x as AC
+abbrev pub withLink : ℕ → ℕ → ℕ
+withLink lac x = withBits lacBits 0 0 lac x
 
 abbrev pub withAc : ℕ → ℕ → ℕ
-withAc lac x = withoutAc lac + x
+withAc lac x = withBits lacBits 1 12 lac x
 
 -- every register and every word fits
 pub record Good (s : State) : Type 0 where
@@ -100,12 +90,3 @@ pub record Good (s : State) : Type 0 where
   pub request : s .request < 2
   pub switches : s .switches < 2 ^ wordBits
   pub memory : Acceptable (s .memory)
-
--- of the registers that the emulator works with alone: each fits its width
-pub record Narrow (p : Processor) : Type 0 where
-  pub lac : p .lac < 2 ^ lacBits
-  pub pc : p .pc < 2 ^ wordBits
-  pub run : p .run < 2
-  pub enable : p .enable < 2
-  pub request : p .request < 2
-  pub switches : p .switches < 2 ^ wordBits

@@ -5,7 +5,7 @@ ghost use mathlib.Core.Path.{_≡_};
 ghost use Prim.Native.Nat.{_^_, _<_};
 ghost use lib.ListN.{length};
 ghost use Rattle.word.specs.Word.{wordBits};
-ghost use Rattle.machine.specs.State.{at};
+ghost use Rattle.machine.specs.Processor.{at};
 ghost use Rattle.machine.specs.Interrupt.{interruptTest, inputOutput};
 
 const ION: u64 = 0o6001;

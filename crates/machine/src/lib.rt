@@ -2,6 +2,9 @@
 pub mod interrupt;
 pub mod memory;
 
+// The number of LAC's values: L, and a word.
+pub const LAC_VALUES: u64 = 8192;
+
 // The machine registers, in document 01's order, as a caller hands them over.
 pub struct Machine {
     pub lac: u16,

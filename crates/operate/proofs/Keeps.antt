@@ -3,10 +3,10 @@
 use Prim.Native.Nat.{ℕ, _<_}
 use lib.Dec.{lit<}
 use Rattle.word.specs.Choice.{on}
-use Rattle.word.proofs.Choice.{choose-either}
+use Rattle.word.proofs.Choice.{pick-either}
 use Rattle.machine.specs.State.{State, Good}
 use Rattle.machine.specs.Instruction.{flag}
-use Rattle.machine.proofs.Keeps.{lac-good, pc-good, run-good, either}
+use Rattle.machine.proofs.Keeps.{lac-good, pc-good, run-good}
 use Rattle.operate.specs.Operate.{group1, group2, group3, operate}
 use Rattle.operate.proofs.Changes.{cleared-lt, changed-lt, rotated-lt, switched-lt}
 use Rattle.operate.proofs.Skipped.{skip-lt}
@@ -14,9 +14,9 @@ use Rattle.operate.proofs.Skipped.{skip-lt}
 pub operate-good : (i : ℕ) {s : State} → Good s → Good (operate i s)
 unfolding operate group1 group2 group3
 operate-good i {s} g =
-    either (on (flag 3 i))
-    (either (on (flag 11 i)) (lac-good (cleared-lt i (g .lac)) g)
+    pick-either Good (on (flag 3 i))
+    (pick-either Good (on (flag 11 i)) (lac-good (cleared-lt i (g .lac)) g)
     (pc-good (skip-lt i (s .lac) (g .pc))
-    (lac-good (switched-lt i (g .switches) (cleared-lt i (g .lac)))
-    (run-good (choose-either (λ (x : ℕ). x < 2) (flag 10 i) (lit< tt) (g .run)) g))))
+    (lac-good (switched-lt i (s .switches) (cleared-lt i (g .lac)))
+    (run-good (pick-either (λ (x : ℕ). x < 2) (on (flag 10 i)) (lit< tt) (g .run)) g))))
     (lac-good (rotated-lt i (changed-lt i (g .lac))) g)

@@ -1,5 +1,5 @@
 pub mod Changes
 pub mod Masks
-pub mod Turns
+pub mod Rotated
 pub mod Skipped
 pub mod Keeps

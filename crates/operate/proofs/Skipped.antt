@@ -4,7 +4,7 @@
 use mathlib.Core.Path.{_≡_}
 use Prim.Native.Nat.{ℕ, _^_, _<_}
 use native.Mathlib.Omega.{arith}
-use Rattle.word.specs.Choice.{pick, choose}
+use Rattle.word.specs.Choice.{on, pick}
 use Rattle.word.specs.Word.{wordBits, bits, next}
 use Rattle.word.proofs.Choice.{pick-either}
 use Rattle.word.proofs.Next.{next-lt}
@@ -18,7 +18,7 @@ skip-lt i lac {pc} h = pick-either (λ (n : ℕ). n < 2 ^ wordBits) (skips i lac
 
 module _ (i : ℕ) (s : State) (pc lac : ℕ) (skipping : pc ≡ pick (skips i (s .lac)) (next (s .pc)) (s .pc)) where
   -- with the switches and the halt
-  pub skipped : (run : ℕ) → lac ≡ switched i (s .switches) (cleared i (s .lac)) → run ≡ choose (flag 10 i) 0 (s .run)
+  pub skipped : (run : ℕ) → lac ≡ switched i (s .switches) (cleared i (s .lac)) → run ≡ pick (on (flag 10 i)) 0 (s .run)
       → withPc pc (withLac lac (withRun run s)) ≡ group2 i s
   unfolding group2
   skipped run switching halting = rw (skipping, switching, halting)

@@ -1,49 +1,49 @@
 -- "Op 7": its three groups, each in the order in which document 01 names what the bits do.
 -- Assumes nothing.
 use Prim.Native.Nat.{ℕ, _+_, _%_, _^_}
-use mathlib.Core.Bool.{Bool, true, false, not, _&&_, _||_}
+use mathlib.Core.Bool.{Bool, not, _&&_, _||_}
 use lib.Bits.{bitOr}
-use Rattle.word.specs.Choice.{on, pick, choose}
+use Rattle.word.specs.Choice.{on, pick}
 use Rattle.word.specs.Word.{wordBits, bits, complement, rotatedLeft, rotatedRight, next}
-use Rattle.machine.specs.State.{State, lacBits, withLac, withPc, withRun, link, ac, withAc, withoutAc}
+use Rattle.machine.specs.State.{State, lacBits, withLac, withPc, withRun, link, ac, withLink, withAc}
 use Rattle.machine.specs.Instruction.{flag}
 
 -- ---- "Op 7, bit 3 = 0", on LAC
 
 -- "Bit 4 clears AC" (in all three groups)
 abbrev pub cleared : ℕ → ℕ → ℕ
-cleared i lac = choose (flag 4 i) (withoutAc lac) lac
+cleared i lac = pick (on (flag 4 i)) (withAc lac 0) lac
 
 -- "bit 5 clears L"
 abbrev pub linkCleared : ℕ → ℕ → ℕ
-linkCleared i lac = choose (flag 5 i) (lac % 2 ^ wordBits) lac
+linkCleared i lac = pick (on (flag 5 i)) (withLink lac 0) lac
 
 -- "then bit 6 complements AC"
 abbrev pub complemented : ℕ → ℕ → ℕ
-complemented i lac = choose (flag 6 i) (withAc lac (complement wordBits (ac lac))) lac
+complemented i lac = pick (on (flag 6 i)) (withAc lac (complement wordBits (ac lac))) lac
 
 -- "bit 7 complements L"
 abbrev pub linkComplemented : ℕ → ℕ → ℕ
-linkComplemented i lac = choose (flag 7 i) ((lac + 2 ^ wordBits) % 2 ^ lacBits) lac
+linkComplemented i lac = pick (on (flag 7 i)) (withLink lac (complement 1 (link lac))) lac
 
 -- "then bit 11 adds 1 to LAC modulo 8,192"
 abbrev pub increased : ℕ → ℕ → ℕ
-increased i lac = choose (flag 11 i) ((lac + 1) % 2 ^ lacBits) lac
+increased i lac = pick (on (flag 11 i)) ((lac + 1) % 2 ^ lacBits) lac
 
 -- "by one place, or two if bit 10 is 1"
 abbrev pub places : ℕ → ℕ
-places i = choose (flag 10 i) 2 1
+places i = pick (on (flag 10 i)) 2 1
 
 -- "then bit 9 rotates LAC left"
-abbrev pub turnedLeft : ℕ → ℕ → ℕ
-turnedLeft i lac = choose (flag 9 i) (rotatedLeft lacBits (places i) lac) lac
+abbrev pub leftRotated : ℕ → ℕ → ℕ
+leftRotated i lac = pick (on (flag 9 i)) (rotatedLeft lacBits (places i) lac) lac
 
 -- "and after it bit 8 rotates it right"
-abbrev pub turnedRight : ℕ → ℕ → ℕ
-turnedRight i lac = choose (flag 8 i) (rotatedRight lacBits (places i) lac) lac
+abbrev pub rightRotated : ℕ → ℕ → ℕ
+rightRotated i lac = pick (on (flag 8 i)) (rotatedRight lacBits (places i) lac) lac
 
 unfoldable pub rotated : ℕ → ℕ → ℕ
-rotated i lac = turnedRight i (turnedLeft i lac)
+rotated i lac = rightRotated i (leftRotated i lac)
 
 unfoldable pub changed : ℕ → ℕ → ℕ
 changed i lac = increased i (linkComplemented i (complemented i (linkCleared i (cleared i lac))))
@@ -72,14 +72,14 @@ skips i lac = pick (on (flag 8 i)) (skipsReversed i lac) (skipsPlain i lac)
 
 -- "then bit 9 ors SWITCHES into AC"
 abbrev pub switched : ℕ → ℕ → ℕ → ℕ
-switched i switches lac = choose (flag 9 i) (withAc lac (bitOr (ac lac) switches)) lac
+switched i switches lac = pick (on (flag 9 i)) (withAc lac (bitOr (ac lac) switches)) lac
 
 -- "First the skip. .. Then bit 4 clears AC; then bit 9 ors SWITCHES into AC and bit 10 sets RUN to 0"
 unfoldable pub group2 : ℕ → State → State
 group2 i s =
     withPc (pick (skips i (s .lac)) (next (s .pc)) (s .pc))
     (withLac (switched i (s .switches) (cleared i (s .lac)))
-    (withRun (choose (flag 10 i) 0 (s .run)) s))
+    (withRun (pick (on (flag 10 i)) 0 (s .run)) s))
 
 -- ---- "With bit 11 = 1 bit 4 clears AC, and that is all"
 
@@ -87,4 +87,4 @@ unfoldable pub group3 : ℕ → State → State
 group3 i s = withLac (cleared i (s .lac)) s
 
 unfoldable pub operate : ℕ → State → State
-operate i s = elim (on (flag 3 i)) [ true ↦ elim (on (flag 11 i)) [ true ↦ group3 i s | false ↦ group2 i s ] | false ↦ group1 i s ]
+operate i s = pick (on (flag 3 i)) (pick (on (flag 11 i)) (group3 i s) (group2 i s)) (group1 i s)

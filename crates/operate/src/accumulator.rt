@@ -1,10 +1,18 @@
 // What the first group does to LAC before it rotates, and bit 4, which clears AC in all three groups. A bit of the instruction is named by
 // its mnemonic; it is set where the instruction, divided by the bit's place value, is odd.
+use word::WORD_VALUES;
 ghost use mathlib.Core.Path.{_≡_};
 ghost use Prim.Native.Nat.{ℕ, _^_, _<_};
 ghost use lib.Bits.{bitAnd, bitXor};
 ghost use Rattle.machine.specs.State.{lacBits};
 ghost use Rattle.operate.specs.Operate.{cleared, linkCleared, complemented, linkComplemented};
+
+// All bits of LAC, those of AC, and L.
+const LAC: u64 = 0o17777;
+
+const AC: u64 = 0o7777;
+
+const LINK: u64 = 0o10000;
 
 const CLA: u64 = 0o200;
 
@@ -17,7 +25,7 @@ pub fn clear(i: u64, lac: u64) -> u64
     ensures { λ r. ⌜ r ≡ cleared i lac ⌝ }
 {
     if i / CLA % 2 != 0 {
-        lac / 4096 * 4096
+        lac / WORD_VALUES * WORD_VALUES
     } else {
         lac
     }
@@ -28,22 +36,22 @@ fn kept(i: u64) -> u64
     ensures { λ r. ⌜ ((lac : ℕ) → lac < 2 ^ lacBits → bitAnd lac r ≡ linkCleared i (cleared i lac)) ⌝ }
 {
     match i / CLL % 4 {
-        0 => 0o17777,
-        1 => 0o7777,
-        2 => 0o10000,
+        0 => LAC,
+        1 => AC,
+        2 => LINK,
         _ => 0,
     }
 }
 
-// The bits of LAC that bits 6 and 7 turn over: CMA counts 2, and CML 1.
-fn turned_over(i: u64) -> u64
+// The bits of LAC that bits 6 and 7 complement: CMA counts 2, and CML 1.
+fn complemented_bits(i: u64) -> u64
     ensures { λ r. ⌜ ((lac : ℕ) → lac < 2 ^ lacBits → bitXor lac r ≡ linkComplemented i (complemented i lac)) ⌝ }
 {
     match i / CML % 4 {
         0 => 0,
-        1 => 0o10000,
-        2 => 0o7777,
-        _ => 0o17777,
+        1 => LINK,
+        2 => AC,
+        _ => LAC,
     }
 }
 
@@ -52,5 +60,5 @@ pub fn change(i: u64, lac: u64) -> u64
     requires { ⌜ lac < 2 ^ lacBits ⌝ }
     ensures { λ r. ⌜ r ≡ linkComplemented i (complemented i (linkCleared i (cleared i lac))) ⌝ }
 {
-    (lac & kept(i)) ^ turned_over(i)
+    (lac & kept(i)) ^ complemented_bits(i)
 }

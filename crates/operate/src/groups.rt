@@ -5,12 +5,14 @@ use crate::rotate::increase_and_rotate;
 use crate::skip::skip;
 use machine::Processor;
 use machine::interrupt::interrupt_test;
+use word::WORD_VALUES;
 ghost use mathlib.Core.Path.{_≡_};
 ghost use Prim.Native.Nat.{_^_, _<_};
-ghost use Rattle.word.specs.Choice.{choose};
+ghost use Rattle.word.specs.Choice.{on, pick};
 ghost use Rattle.word.specs.Word.{wordBits};
 ghost use Rattle.machine.specs.Instruction.{flag};
-ghost use Rattle.machine.specs.State.{at, lacBits, Good};
+ghost use Rattle.machine.specs.State.{lacBits, Good};
+ghost use Rattle.machine.specs.Processor.{at};
 ghost use Rattle.machine.specs.Interrupt.{interruptTest};
 ghost use Rattle.operate.specs.Operate.{switched, group2, group3, operate};
 
@@ -26,7 +28,7 @@ fn or_switches(i: u64, switches: u64, lac: u64) -> u64
     ensures { λ r. ⌜ r ≡ switched i switches lac ⌝ }
 {
     if i / OSR % 2 != 0 {
-        lac / 4096 * 4096 + (lac % 4096 | switches)
+        lac / WORD_VALUES * WORD_VALUES + (lac % WORD_VALUES | switches)
     } else {
         lac
     }
@@ -34,7 +36,7 @@ fn or_switches(i: u64, switches: u64, lac: u64) -> u64
 
 // Bit 10 sets RUN to 0.
 fn halt(i: u64, run: u64) -> u64
-    ensures { λ r. ⌜ r ≡ choose (flag 10 i) 0 run ⌝ }
+    ensures { λ r. ⌜ r ≡ pick (on (flag 10 i)) 0 run ⌝ }
 {
     if i / HLT % 2 != 0 { 0 } else { run }
 }

@@ -1,4 +1,5 @@
 // The increase and the rotations of the first group: the bits that leave LAC at one end come back at the other.
+use machine::LAC_VALUES;
 ghost use mathlib.Core.Path.{_≡_};
 ghost use Prim.Native.Nat.{ℕ, _+_, _*_, _/_, _%_, _^_, _<_};
 ghost use Rattle.machine.specs.State.{lacBits};
@@ -27,6 +28,6 @@ pub fn increase_and_rotate(i: u64, lac: u64) -> u64
     requires { ⌜ lac < 2 ^ lacBits ⌝ }
     ensures { λ r. ⌜ r ≡ rotated i (increased i lac) ⌝ }
 {
-    let x = (lac + i / IAC % 2) % 8192 * factor(i);
-    x % 8192 + x / 8192
+    let x = (lac + i / IAC % 2) % LAC_VALUES * factor(i);
+    x % LAC_VALUES + x / LAC_VALUES
 }

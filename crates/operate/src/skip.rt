@@ -1,8 +1,12 @@
 // The skips of the second group.
+use word::WORD_VALUES;
 ghost use mathlib.Core.Path.{_≡_};
 ghost use Rattle.word.specs.Choice.{pick};
 ghost use Rattle.word.specs.Word.{next};
 ghost use Rattle.operate.specs.Operate.{skips, skipsPlain, skipsReversed};
+
+// The place value of AC<0> in LAC.
+const SIGN: u64 = 0o4000;
 
 const SMA: u64 = 0o100;
 
@@ -16,9 +20,9 @@ const REVERSED: u64 = 0o10;
 fn skips_plain(i: u64, lac: u64) -> bool
     ensures { λ r. ⌜ r ≡ skipsPlain i lac ⌝ }
 {
-    ((i / SMA % 2 != 0) & (lac / 2048 % 2 != 0))
-        | ((i / SZA % 2 != 0) & !(lac % 4096 != 0))
-        | ((i / SNL % 2 != 0) & (lac / 4096 % 2 != 0))
+    ((i / SMA % 2 != 0) & (lac / SIGN % 2 != 0))
+        | ((i / SZA % 2 != 0) & !(lac % WORD_VALUES != 0))
+        | ((i / SNL % 2 != 0) & (lac / WORD_VALUES % 2 != 0))
 }
 
 // The same of the reversed conditions, or of none selected.
@@ -26,9 +30,9 @@ fn skips_reversed(i: u64, lac: u64) -> bool
     ensures { λ r. ⌜ r ≡ skipsReversed i lac ⌝ }
 {
     !(i / SNL % 8 != 0)
-        | ((i / SMA % 2 != 0) & !(lac / 2048 % 2 != 0))
-        | ((i / SZA % 2 != 0) & (lac % 4096 != 0))
-        | ((i / SNL % 2 != 0) & !(lac / 4096 % 2 != 0))
+        | ((i / SMA % 2 != 0) & !(lac / SIGN % 2 != 0))
+        | ((i / SZA % 2 != 0) & (lac % WORD_VALUES != 0))
+        | ((i / SNL % 2 != 0) & !(lac / WORD_VALUES % 2 != 0))
 }
 
 // Whether the instruction skips the next one.

@@ -2,10 +2,11 @@
 -- Assumes nothing.
 use Prim.Native.Nat.{ℕ}
 use lib.Dec.{eqb}
+use Rattle.word.proofs.Choice.{pick-either}
 use Rattle.word.proofs.Next.{next-lt}
 use Rattle.machine.specs.State.{State, Good, word}
 use Rattle.machine.specs.Instruction.{op}
-use Rattle.machine.proofs.Keeps.{pc-good, interrupt-good, inputOutput-good, either}
+use Rattle.machine.proofs.Keeps.{pc-good, interrupt-good, inputOutput-good}
 use Rattle.operate.proofs.Keeps.{operate-good}
 use Rattle.reference.proofs.Keeps.{reference-good}
 use Rattle.pdp8.specs.Step.{execute, step}
@@ -13,8 +14,8 @@ use Rattle.pdp8.specs.Step.{execute, step}
 execute-good : (i last : ℕ) {s : State} → Good s → Good (execute i last s)
 unfolding execute
 execute-good i last g =
-    either (eqb (op i) 6) (inputOutput-good i g)
-    (interrupt-good (either (eqb (op i) 7) (operate-good i g) (reference-good i last g)))
+    pick-either Good (eqb (op i) 6) (inputOutput-good i g)
+    (interrupt-good (pick-either Good (eqb (op i) 7) (operate-good i g) (reference-good i last g)))
 
 pub step-good : {s : State} → Good s → Good (step s)
 unfolding step

@@ -8,13 +8,13 @@ use native.Mathlib.Nat.{zero-add, add-zero, suc-add, add-suc, le-of-suc-le-suc, 
 use native.Mathlib.Numerals.{add-one}
 use native.Mathlib.Omega.{arith}
 use Rattle.laws.proofs.Tests.{by-test}
-use Rattle.word.specs.Choice.{on, pick, choose}
+use Rattle.word.specs.Choice.{on, pick}
 use Rattle.word.proofs.Choice.{case-true, case-false}
 use Rattle.state.specs.declared.Reason.{Reason}
 use Rattle.state.specs.declared.Reason.the-variants.{Halted, Spent}
 use Rattle.machine.specs.State.{State, Good}
 use Rattle.pdp8.specs.Step.{step}
-use Rattle.pdp8.specs.Run.{Run, reasonOf, ended, runFrom, run, after, following}
+use Rattle.pdp8.specs.Run.{Run, reasonOf, ended, runFrom, run}
 use Rattle.pdp8.proofs.Keeps.{step-good}
 
 -- ---- the loop
@@ -46,7 +46,7 @@ run-on budget done s h e =
     ∙ ap (λ (n : ℕ). runFrom (budget - (done + 1)) n (step s)) (sym (add-one done))
 
 -- a number times RUN: the bound that the loop's one test compares with
-pub bound-is : (n b : ℕ) → b < 2 → n * b ≡ choose b n 0
+pub bound-is : (n b : ℕ) → b < 2 → n * b ≡ pick (on b) n 0
 bound-is n zero h = omega arith
 bound-is n (suc zero) h = omega arith
 bound-is n (suc (suc b)) h = absurd (omega arith)
@@ -62,7 +62,7 @@ below-bound budget done end true e h = (omega (arith, e, h), refl, e)
 below-bound budget done end false e h = absurd (omega (arith, e, h))
 
 -- steps that reach it: RUN is 0, or the budget is done
-pub run-bound : (budget done end : ℕ) (s : State) → end ≡ choose (s .run) budget 0 → end ≤ done → runFrom (budget - done) done s ≡ ended done s
+pub run-bound : (budget done end : ℕ) (s : State) → end ≡ pick (on (s .run)) budget 0 → end ≤ done → runFrom (budget - done) done s ≡ ended done s
 run-bound budget done end s e h =
     by-test (on (s .run))
     (λ t. run-spent budget done s (let all : end ≡ budget = e ∙ ap (λ (b : Bool). pick b budget 0) t in omega (arith, all, h)))
@@ -78,6 +78,15 @@ reason-from (suc left) done s =
     (λ e. rw (run-halted (suc left) done s e))
 
 -- ---- whole runs
+
+-- the state after n steps
+unfoldable pub after : ℕ → State → State
+after zero s = s
+after (suc n) s = after n (step s)
+
+-- a run that follows `done` steps of an earlier one
+abbrev pub following : ℕ → Run → Run
+following done r = record { state = r .state; steps = done + r .steps; reason = r .reason }
 
 -- RUN is 0 at entry: `halted`, 0 steps, at every budget
 pub halted-at-entry : (budget : ℕ) (s : State) → s .run ≡ 0 → run budget s ≡ record { state = s; steps = 0; reason = Halted }

@@ -5,7 +5,8 @@ use Prim.Native.Nat.{ℕ, _/_, _%_, _<_}
 use native.Mathlib.Omega.{arith}
 use borrow.Author.Tests.{ne-eqb}
 use lib.Dec.{eqb}
-use mathlib.Core.Bool.{true, false}
+use mathlib.Core.Bool.{false}
+use Rattle.word.specs.Choice.{pick}
 use Rattle.word.specs.Word.{wordBits, bits, next}
 use Rattle.word.proofs.Choice.{case-true, case-false}
 use Rattle.word.proofs.Next.{next-lt}
@@ -45,7 +46,7 @@ module _ (s : State) (i n : ℕ) (fetched : i ≡ word (s .pc) s) (increased : n
   op-6 six = sym (case-true (eqb (op i) 6) _ _ (ap (λ (x : ℕ). eqb x 6) six)) ∙ execution
 
   not-op-6 : eqb (op i) 6 ≡ false
-      → interruptTest (elim (eqb (op i) 7) [ true ↦ operate i (withPc n s) | false ↦ reference i (s .pc) (withPc n s) ]) ≡ step s
+      → interruptTest (pick (eqb (op i) 7) (operate i (withPc n s)) (reference i (s .pc) (withPc n s))) ≡ step s
   unfolding execute
   not-op-6 six = sym (case-false (eqb (op i) 6) _ _ six) ∙ execution
 

@@ -1,8 +1,8 @@
 -- A run: "A run makes steps .., each from what the last one left, while RUN is 1 and fewer than the budget are done."
 -- Assumes nothing.
-use Prim.Native.Nat.{ℕ, zero, suc, _+_}
+use Prim.Native.Nat.{ℕ, zero, suc}
 use mathlib.Core.Bool.{true, false}
-use Rattle.word.specs.Choice.{on, choose}
+use Rattle.word.specs.Choice.{on, pick}
 use Rattle.state.specs.declared.Reason.{Reason}
 use Rattle.state.specs.declared.Reason.the-variants.{Halted, Spent}
 use Rattle.machine.specs.State.{State}
@@ -16,7 +16,7 @@ pub record Run : Type 0 where
 
 -- "its reason, `halted` if RUN is 0 at the end, else `spent`"
 abbrev pub reasonOf : State → Reason
-reasonOf s = choose (s .run) Spent Halted
+reasonOf s = pick (on (s .run)) Spent Halted
 
 abbrev pub ended : ℕ → State → Run
 ended done s = record { state = s; steps = done; reason = reasonOf s }
@@ -29,12 +29,3 @@ runFrom (suc left) done s = elim (on (s .run)) [ true ↦ runFrom left (suc done
 -- the run of a budget
 unfoldable pub run : ℕ → State → Run
 run budget s = runFrom budget 0 s
-
--- the state after n steps, for what is said of whole runs
-unfoldable pub after : ℕ → State → State
-after zero s = s
-after (suc n) s = after n (step s)
-
--- a run that follows `done` steps of an earlier one
-abbrev pub following : ℕ → Run → Run
-following done r = record { state = r .state; steps = done + r .steps; reason = r .reason }

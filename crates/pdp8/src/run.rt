@@ -3,8 +3,9 @@ use crate::step::step;
 use machine::Processor;
 ghost use mathlib.Core.Path.{_≡_};
 ghost use Prim.Native.Nat.{_<_};
-ghost use Rattle.word.specs.Choice.{choose};
-ghost use Rattle.machine.specs.State.{at, Good};
+ghost use Rattle.word.specs.Choice.{on, pick};
+ghost use Rattle.machine.specs.State.{Good};
+ghost use Rattle.machine.specs.Processor.{at};
 ghost use Rattle.pdp8.specs.Run.{ended, run as runOf};
 
 // The registers that a run leaves, and its steps.
@@ -16,7 +17,7 @@ pub struct Progress {
 // The number up to which steps are counted: none where RUN is 0. A product, so that the loop has one test and the machine one branch.
 fn bound(number: u64, run: u64) -> u64
     requires { ⌜ run < 2 ⌝ }
-    ensures { λ r. ⌜ r ≡ choose run number 0 ⌝ }
+    ensures { λ r. ⌜ r ≡ pick (on run) number 0 ⌝ }
 {
     number * run
 }

@@ -6,7 +6,8 @@ use operate::groups::first_group;
 use operate::groups::other_groups;
 use reference::refer;
 ghost use mathlib.Core.Path.{_≡_};
-ghost use Rattle.machine.specs.State.{at, Good};
+ghost use Rattle.machine.specs.State.{Good};
+ghost use Rattle.machine.specs.Processor.{at};
 ghost use Rattle.pdp8.specs.Step.{step as stepOf};
 
 // One step of the machine, by bits 0 to 3 of the instruction: op, and the bit that tells ib or the first group.

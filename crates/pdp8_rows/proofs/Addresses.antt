@@ -3,7 +3,7 @@
 use mathlib.Core.Path.{_≡_, refl, ap, _∙_}
 use mathlib.Core.Bool.{Bool, true, false}
 use mathlib.Core.List.{List}
-use Prim.Native.Nat.{ℕ, _/_, _%_, _^_, _<_}
+use Prim.Native.Nat.{ℕ, _%_, _^_, _<_}
 use native.Mathlib.Nat.{mod-eq-of-lt}
 use native.Mathlib.Omega.{arith}
 use lib.Dec.{eqb}
@@ -16,7 +16,7 @@ use Rattle.machine.specs.State.{State, Good, withMemory}
 use Rattle.machine.specs.Instruction.{op, ib, pb, pa}
 use Rattle.machine.specs.Interrupt.{interruptTest}
 use Rattle.machine.proofs.Keeps.{stored-good}
-use Rattle.reference.specs.Address.{address, firstAddress, indexed, effective, afterIndexing}
+use Rattle.reference.specs.Address.{address, firstAddress, isIndex, indexed, effective, afterIndexing}
 use Rattle.reference.specs.Reference.{operation, reference}
 use Rattle.reference.proofs.Addresses.{firstAddress-lt}
 use Rattle.pdp8_rows.proofs.Tree.{rows·address}
@@ -51,7 +51,7 @@ module _ {o : State} {w : Work} (g : Good o) (f : Fit w) where
   after-good : Good (withMemory after o)
   unfolding indexed
   after-good =
-      pick-either (λ (m : List ℕ). Good (withMemory m o)) (eqb (first / 8) 1) (stored-good first (next-lt (getD (o .memory) first 0)) g) g
+      pick-either (λ (m : List ℕ). Good (withMemory m o)) (isIndex first) (stored-good first (next-lt (getD (o .memory) first 0)) g) g
 
   pub ends-address : Ends rows·address (inPlaces o w) (interruptTest (reference (w .i) (w .last) o))
   unfolding reference effective afterIndexing indexed
@@ -66,8 +66,8 @@ module _ {o : State} {w : Work} (g : Good o) (f : Fit w) where
       (test (negated (of-bit (ib (w .i)) (omega arith))))
       (ends-execute g (addressed-fit first-lt f))
       (moved (λ (m : List ℕ). inPlaces (withMemory m o) (addressed first w)) (o .memory) (set (o .memory) first (next (getD (o .memory) first 0)))
-      (eqb (first / 8) 1)
-      (on-bit (eqb (bits wordBits 0 8 first) 1) ∙ ap (λ (x : ℕ). eqb x 1) (index-bits first-lt))
+      (isIndex first)
+      (on-bit (eqb (bits wordBits 0 8 first) 1) ∙ index-bits first-lt)
       (ap (λ (a : ℕ). inPlaces (withMemory (set (o .memory) a (next (getD (o .memory) a 0))) o) (addressed first w)) (mod-eq-of-lt first-lt))
       (acts (inPlaces (withMemory after o) (addressed (getD after first 0) w)) refl
       (ap (λ (x : ℕ). inPlaces (withMemory after o) (addressed x w))

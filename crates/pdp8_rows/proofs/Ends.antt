@@ -91,5 +91,5 @@ module _ {c : Expr} {m : ℕ} {rs : List Row} where
 
   -- the same by cases in what the machine still does
   pub branches : {s : rows.State} {x y : State} (F : State → State) (t : Bool) → on (value s c) ≡ t → Ends (drop m rs) s (F x) → Ends rs s (F y)
-      → Ends (goes c m ∷ rs) s (F (elim t [ true ↦ x | false ↦ y ]))
-  branches {s} {x} {y} F t test a b = decides (λ u. F (elim u [ true ↦ x | false ↦ y ])) t test a b
+      → Ends (goes c m ∷ rs) s (F (pick t x y))
+  branches {s} {x} {y} F t test a b = decides (λ u. F (pick u x y)) t test a b

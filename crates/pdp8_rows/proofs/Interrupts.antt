@@ -5,7 +5,7 @@ use mathlib.Core.Bool.{Bool, true, false, not, _&&_}
 use Prim.Native.Nat.{ℕ, _^_, _<_}
 use native.Mathlib.Nat.{mod-eq-of-lt}
 use lib.Dec.{eqb, lit<}
-use Rattle.word.specs.Choice.{on, bit}
+use Rattle.word.specs.Choice.{on, pick, bit}
 use Rattle.word.specs.Word.{wordBits, complement}
 use Rattle.word.proofs.Choice.{on-bit}
 use Rattle.machine.specs.State.{State, Good, stored, withPc, withEnable}
@@ -18,7 +18,7 @@ use Rattle.pdp8_rows.proofs.Bits.{of-bit, negated, test}
 module _ {o : State} {w : Work} (f : Fit w) where
   -- "M[0] = PC, PC = 1, INTERRUPT.ENABLE = 0"
   interrupts : o .pc < 2 ^ wordBits → (enabled requested : Bool) → on (complement 1 (o .enable)) ≡ not enabled → on (complement 1 (o .request)) ≡ not requested
-      → Ends rows·interrupt (inPlaces o w) (elim (enabled && requested) [ true ↦ interrupted o | false ↦ o ])
+      → Ends rows·interrupt (inPlaces o w) (pick (enabled && requested) (interrupted o) o)
   interrupts h false requested p q = jumps p (past f)
   interrupts h true false p q = stays p (jumps q (past f))
   interrupts h true true p q =
@@ -39,7 +39,7 @@ seen-as {t} {u} e = on-bit t ∙ e
 -- op 6 by the two words that it knows
 module _ {o : State} {w : Work} (g : Good o) (f : Fit w) where
   switches : (first second : Bool) → eqb (w .i) ion ≡ first → eqb (w .i) iof ≡ second
-      → Ends rows·iot (inPlaces o w) (elim first [ true ↦ withEnable 1 o | false ↦ interruptTest (elim second [ true ↦ withEnable 0 o | false ↦ o ]) ])
+      → Ends rows·iot (inPlaces o w) (pick first (withEnable 1 o) (interruptTest (pick second (withEnable 0 o) o)))
   switches true second p q =
       acts (inPlaces (withEnable 1 o) w) (seen-as p) refl (jumps (seen-as p) (past f))
   switches false true p q =

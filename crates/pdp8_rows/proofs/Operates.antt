@@ -7,12 +7,11 @@ use Prim.Native.Nat.{ℕ, _+_, _%_, _^_, _<_}
 use native.Mathlib.Nat.{mod-eq-of-lt}
 use lib.Dec.{lit<}
 use lib.ListN.{drop}
-use Rattle.word.specs.Choice.{on, pick, choose}
+use Rattle.word.specs.Choice.{on, pick}
 use Rattle.word.specs.Word.{wordBits, complement, rotatedLeft, rotatedRight}
-use Rattle.word.proofs.Choice.{choose-either}
-use Rattle.word.proofs.Complement.{complement-lt}
+use Rattle.word.proofs.Choice.{pick-either}
 use Rattle.word.proofs.Rotation.{rotatedLeft-lt, rotatedRight-lt}
-use Rattle.machine.specs.State.{State, Good, lacBits, withLac, ac, withAc, withoutAc}
+use Rattle.machine.specs.State.{State, Good, lacBits, withLac, link, ac, withLink, withAc}
 use Rattle.machine.specs.Instruction.{flag}
 use Rattle.machine.specs.Interrupt.{interruptTest}
 use Rattle.operators.specs.declared.Operator.the-variants.{RotateLeft, RotateRight}
@@ -21,12 +20,11 @@ use Rattle.declaration.specs.Rows.{Row, does, goes}
 use Rattle.value.specs.Value as rows
 use Rattle.operate.specs.Operate as machine
 use Rattle.operate.specs.Operate.{cleared, linkCleared, complemented, linkComplemented, increased, changed, group1, group3, operate}
-use Rattle.operate.proofs.Changes.{cleared-lt, linkCleared-lt, complemented-lt, changed-lt}
+use Rattle.operate.proofs.Changes.{changed-lt}
 use Rattle.pdp8_rows.proofs.Tree as tree
 use Rattle.pdp8_rows.proofs.Tree.{rows·opr, rows·twice, rows·group2, rows·group3, rows·interrupt}
 use Rattle.pdp8_rows.proofs.Places.{Work, Fit, inPlaces}
 use Rattle.pdp8_rows.proofs.Ends.{Ends, moved, jumps, decides, branches}
-use Rattle.pdp8_rows.proofs.Bits.{ac-stored, ac-cleared, link-cleared, link-complemented}
 use Rattle.pdp8_rows.proofs.Interrupts.{ends-interrupt}
 use Rattle.pdp8_rows.proofs.Skips.{ends-group2}
 
@@ -36,10 +34,10 @@ module _ {o : State} {w : Work} (g : Good o) (f : Fit w) where
 
   -- LAC rotated by n places: left, and after it right
   abbrev leftBy : ℕ → ℕ → ℕ
-  leftBy n x = choose (flag 9 i) (rotatedLeft lacBits n x) x
+  leftBy n x = pick (on (flag 9 i)) (rotatedLeft lacBits n x) x
 
   abbrev rotatedBy : ℕ → ℕ → ℕ
-  rotatedBy n x = choose (flag 8 i) (rotatedRight lacBits n (leftBy n x)) (leftBy n x)
+  rotatedBy n x = pick (on (flag 8 i)) (rotatedRight lacBits n (leftBy n x)) (leftBy n x)
 
   -- LAC after each change of group 1
   abbrev lac₁ : ℕ
@@ -66,10 +64,10 @@ module _ {o : State} {w : Work} (g : Good o) (f : Fit w) where
 
   ends-group3 : Ends rows·group3 (inPlaces o w) (interruptTest (group3 i o))
   unfolding group3
-  ends-group3 = moved lac-is (o .lac) (withoutAc (o .lac)) (on (flag 4 i)) refl (ap lac-is (ac-cleared (o .lac))) (ends-lac (cleared i (o .lac)))
+  ends-group3 = moved lac-is (o .lac) (withAc (o .lac) 0) (on (flag 4 i)) refl refl (ends-lac (cleared i (o .lac)))
 
   leftBy-lt : (n : ℕ) {x : ℕ} → x < 2 ^ lacBits → leftBy n x < 2 ^ lacBits
-  leftBy-lt n h = choose-either (λ (z : ℕ). z < 2 ^ lacBits) (flag 9 i) (rotatedLeft-lt lacBits (lit< tt) n h) h
+  leftBy-lt n h = pick-either (λ (z : ℕ). z < 2 ^ lacBits) (on (flag 9 i)) (rotatedLeft-lt lacBits (lit< tt) n h) h
 
   -- two rows rotate by n places, and the third goes to the interrupt test
   rotates : (n : ℕ) (m : ℕ) (rs : List Row) (x : ℕ) → x < 2 ^ lacBits → drop m rs ≡ rows·interrupt
@@ -88,11 +86,10 @@ module _ {o : State} {w : Work} (g : Good o) (f : Fit w) where
   ends-group1 : Ends (drop 1 rows·opr) (inPlaces o w) (interruptTest (group1 i o))
   unfolding group1 changed machine.rotated
   ends-group1 =
-      moved lac-is (o .lac) (withoutAc (o .lac)) (on (flag 4 i)) refl (ap lac-is (ac-cleared (o .lac)))
-      (moved lac-is lac₁ (lac₁ % 2 ^ wordBits) (on (flag 5 i)) refl (ap lac-is (link-cleared (cleared-lt i (g .lac))))
-      (moved lac-is lac₂ (withAc lac₂ (complement wordBits (ac lac₂))) (on (flag 6 i)) refl (ap lac-is (ac-stored lac₂ (complement-lt wordBits (ac lac₂))))
-      (moved lac-is lac₃ ((lac₃ + 2 ^ wordBits) % 2 ^ lacBits) (on (flag 7 i)) refl
-      (ap lac-is (link-complemented (complemented-lt i (linkCleared-lt i (cleared-lt i (g .lac))))))
+      moved lac-is (o .lac) (withAc (o .lac) 0) (on (flag 4 i)) refl refl
+      (moved lac-is lac₁ (withLink lac₁ 0) (on (flag 5 i)) refl refl
+      (moved lac-is lac₂ (withAc lac₂ (complement wordBits (ac lac₂))) (on (flag 6 i)) refl refl
+      (moved lac-is lac₃ (withLink lac₃ (complement 1 (link lac₃))) (on (flag 7 i)) refl refl
       (moved lac-is lac₄ ((lac₄ + 1) % 2 ^ lacBits) (on (flag 11 i)) refl refl
       (decides (λ (t : Bool). interruptTest (withLac (rotatedBy (pick t 2 1) lac₅) o)) (on (flag 10 i)) refl
       (rotates 2 17 rows·group2 lac₅ (changed-lt i (g .lac)) refl)

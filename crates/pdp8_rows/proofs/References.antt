@@ -1,33 +1,25 @@
 -- The rows of ops 0 to 5: each works on the word at eadd and ends with the interrupt test.
 -- Assumes nothing.
 use mathlib.Core.Path.{_≡_, refl, sym, ap, ap₂, _∙_, subst}
-use mathlib.Core.Bool.{Bool, true, false, not}
 use Prim.Native.Nat.{ℕ, _+_, _%_, _^_, _<_}
 use native.Mathlib.Nat.{mod-eq-of-lt}
-use native.Mathlib.Omega.{arith}
-use lib.Bits.{bitAnd, and-le-l}
+use lib.Bits.{bitAnd}
 use lib.Dec.{eqb}
 use lib.ListN.{getD, set}
 use lib.Seq.{getD-set-same}
-use Rattle.word.specs.Choice.{pick}
-use Rattle.word.specs.Word.{wordBits, withBits, next}
-use Rattle.word.proofs.Choice.{choose-either, on-bit}
+use Rattle.word.specs.Word.{wordBits, next}
+use Rattle.word.proofs.Choice.{pick-either, on-bit}
 use Rattle.word.proofs.Next.{next-lt}
-use Rattle.machine.specs.State.{State, Good, lacBits, word, stored, withLac, withPc, ac}
+use Rattle.machine.specs.State.{State, Good, lacBits, word, stored, withLac, withPc, ac, withAc}
 use Rattle.machine.specs.Instruction.{op}
 use Rattle.machine.specs.Interrupt.{interruptTest}
 use Rattle.machine.proofs.Lac.{ac-lt}
 use Rattle.reference.specs.Reference.{andTo, addTo, incrementAndSkip, deposit, callAt, jumpTo, operation}
+use Rattle.reference.proofs.Ops.{by-op}
 use Rattle.pdp8_rows.proofs.Tree.{rows·execute, rows·jmp, rows·and, rows·tad, rows·isz, rows·dca, rows·jms}
 use Rattle.pdp8_rows.proofs.Places.{Work, Fit, inPlaces}
-use Rattle.pdp8_rows.proofs.Ends.{Ends, seen, acts, moved, jumps, branches}
-use Rattle.pdp8_rows.proofs.Bits.{ac-stored, ac-cleared}
+use Rattle.pdp8_rows.proofs.Ends.{Ends, acts, moved, jumps, branches}
 use Rattle.pdp8_rows.proofs.Interrupts.{ends-interrupt}
-
--- a choice the other way round
-pick-not : (t : Bool) (x y : ℕ) → pick t y x ≡ pick (not t) x y
-pick-not true x y = refl
-pick-not false x y = refl
 
 module _ {o : State} {w : Work} (g : Good o) (f : Fit w) where
   -- "A memory address is taken modulo 4,096": eadd is one
@@ -42,9 +34,7 @@ module _ {o : State} {w : Work} (g : Good o) (f : Fit w) where
   ends-and : Ends rows·and (inPlaces o w) (interruptTest (andTo (w .eadd) o))
   ends-and =
       acts (inPlaces (andTo (w .eadd) o) w) refl
-      (ap (λ (x : ℕ). inPlaces (withLac x o) w)
-      (ap (λ (a : ℕ). withBits lacBits 1 12 (o .lac) (bitAnd (ac (o .lac)) (word a o))) at-eadd
-      ∙ ac-stored (o .lac) (let h = ac-lt (o .lac) in let l = and-le-l (ac (o .lac)) (word (w .eadd) o) in omega arith)))
+      (ap (λ (a : ℕ). inPlaces (withLac (withAc (o .lac) (bitAnd (ac (o .lac)) (word a o))) o) w) at-eadd)
       (jumps refl (ends-interrupt f (g .pc) (g .enable) (g .request)))
 
   ends-tad : Ends rows·tad (inPlaces o w) (interruptTest (addTo (w .eadd) o))
@@ -56,7 +46,7 @@ module _ {o : State} {w : Work} (g : Good o) (f : Fit w) where
   ends-dca =
       acts (inPlaces (stored (w .eadd) (ac (o .lac)) o) w) refl
       (ap₂ (λ (a x : ℕ). inPlaces (stored a x o) w) at-eadd (mod-eq-of-lt (ac-lt (o .lac))))
-      (acts (inPlaces (deposit (w .eadd) o) w) refl (ap (λ (x : ℕ). inPlaces (withLac x (stored (w .eadd) (ac (o .lac)) o)) w) (ac-cleared (o .lac)))
+      (acts (inPlaces (deposit (w .eadd) o) w) refl refl
       (jumps refl (ends-interrupt f (g .pc) (g .enable) (g .request))))
 
   ends-jms : Ends rows·jms (inPlaces o w) (interruptTest (callAt (w .eadd) o))
@@ -79,15 +69,14 @@ module _ {o : State} {w : Work} (g : Good o) (f : Fit w) where
       acts (inPlaces (stored (w .eadd) increased o) w) refl (ap (λ (a : ℕ). inPlaces (stored a (next (word a o)) o) w) at-eadd)
       (moved (λ (n : ℕ). inPlaces (withPc n (stored (w .eadd) increased o)) w) (o .pc) (next (o .pc)) (eqb increased 0)
       (on-bit (eqb (getD (set (o .memory) (w .eadd) increased) (w .eadd % 2 ^ wordBits) 0) 0) ∙ ap (λ (v : ℕ). eqb v 0) read-back) refl
-      (seen (ap (λ (n : ℕ). inPlaces (withPc n (stored (w .eadd) increased o)) w) (pick-not (eqb increased 0) (o .pc) (next (o .pc))))
       (jumps refl
-      (ends-interrupt f (choose-either (λ (n : ℕ). n < 2 ^ wordBits) increased (g .pc) (next-lt (o .pc))) (g .enable) (g .request)))))
+      (ends-interrupt f (pick-either (λ (n : ℕ). n < 2 ^ wordBits) (eqb increased 0) (next-lt (o .pc)) (g .pc)) (g .enable) (g .request))))
 
   pub ends-execute : Ends rows·execute (inPlaces o w) (interruptTest (operation (op (w .i)) (w .eadd) o))
-  unfolding operation
   ends-execute =
-      branches interruptTest (eqb (op (w .i)) 0) (on-bit (eqb (op (w .i)) 0)) ends-and
+      subst (λ (s : State). Ends rows·execute (inPlaces o w) (interruptTest s)) (sym (by-op (op (w .i)) (w .eadd) o))
+      (branches interruptTest (eqb (op (w .i)) 0) (on-bit (eqb (op (w .i)) 0)) ends-and
       (branches interruptTest (eqb (op (w .i)) 1) (on-bit (eqb (op (w .i)) 1)) ends-tad
       (branches interruptTest (eqb (op (w .i)) 2) (on-bit (eqb (op (w .i)) 2)) ends-isz
       (branches interruptTest (eqb (op (w .i)) 3) (on-bit (eqb (op (w .i)) 3)) ends-dca
-      (branches interruptTest (eqb (op (w .i)) 4) (on-bit (eqb (op (w .i)) 4)) ends-jms ends-jmp))))
+      (branches interruptTest (eqb (op (w .i)) 4) (on-bit (eqb (op (w .i)) 4)) ends-jms ends-jmp)))))

@@ -4,7 +4,7 @@ use mathlib.Core.Path.{_≡_, refl, sym, ap, _∙_, subst}
 use mathlib.Core.Bool.{Bool, true, false}
 use Prim.Native.Nat.{ℕ, zero, suc}
 use lib.ListN.{getD}
-use Rattle.word.specs.Choice.{on, choose}
+use Rattle.word.specs.Choice.{on, pick}
 use Rattle.state.specs.declared.Reason.the-variants.{Halted, Spent}
 use Rattle.machine.specs.State.{State, Good}
 use Rattle.pdp8.specs.Step.{step}
@@ -46,7 +46,7 @@ ended-alike done o w c f e =
       fits = f;
       state = e;
       steps = refl;
-      reason = ap (λ (x : ℕ). choose x Spent Halted) (running-in-places (c .state) o w e);
+      reason = ap (λ (x : ℕ). pick (on x) Spent Halted) (running-in-places (c .state) o w e);
     }
 
 -- one test decides of both

@@ -5,16 +5,15 @@ use mathlib.Core.Bool.{Bool, false, not, _&&_, _||_}
 use mathlib.Core.List.{List, _∷_}
 use Prim.Native.Nat.{ℕ, _^_, _<_}
 use native.Mathlib.Omega.{arith}
-use lib.Bits.{bitOr, or-lt}
+use lib.Bits.{bitOr}
 use lib.ListN.{drop}
-use Rattle.word.specs.Choice.{on, pick, choose, bit}
+use Rattle.word.specs.Choice.{on, pick, bit}
 use Rattle.word.specs.Word.{wordBits, bits, next}
 use Rattle.word.proofs.Choice.{pick-either, on-bit, bit-lt}
 use Rattle.word.proofs.Next.{next-lt}
-use Rattle.machine.specs.State.{State, Good, withLac, withPc, withRun, link, ac, withAc, withoutAc}
+use Rattle.machine.specs.State.{State, Good, withLac, withPc, withRun, link, ac, withAc}
 use Rattle.machine.specs.Instruction.{flag}
 use Rattle.machine.specs.Interrupt.{interruptTest}
-use Rattle.machine.proofs.Lac.{ac-lt}
 use Rattle.code.specs.Tree.{Expr}
 use Rattle.declaration.specs.Rows.{Row, does}
 use Rattle.value.specs.Value as rows
@@ -23,7 +22,7 @@ use Rattle.operate.specs.Operate.{cleared, sign, skipsPlain, skipsReversed, ski
 use Rattle.pdp8_rows.proofs.Tree.{toSkip, one, rows·group2, rows·inverted, rows·decided}
 use Rattle.pdp8_rows.proofs.Places.{Work, Fit, inPlaces, skipping, skipping-fit}
 use Rattle.pdp8_rows.proofs.Ends.{Ends, seen, acts, moved, jumps, decides}
-use Rattle.pdp8_rows.proofs.Bits.{of-test, of-bit, of-zero, negated, both, test, set-where, ac-stored, ac-cleared}
+use Rattle.pdp8_rows.proofs.Bits.{of-test, of-bit, of-zero, negated, both, test, set-where}
 use Rattle.pdp8_rows.proofs.Interrupts.{ends-interrupt}
 
 module _ {o : State} {w : Work} (g : Good o) (f : Fit w) where
@@ -37,7 +36,7 @@ module _ {o : State} {w : Work} (g : Good o) (f : Fit w) where
   abbrev decided : Bool → State
   decided b =
       withPc (pick b (next (o .pc)) (o .pc))
-      (withLac (switched i (o .switches) (cleared i lac)) (withRun (choose (flag 10 i) 0 (o .run)) o))
+      (withLac (switched i (o .switches) (cleared i lac)) (withRun (pick (on (flag 10 i)) 0 (o .run)) o))
 
   -- states with the skip so far; then with PC counted and another LAC; then with another RUN
   abbrev skip-is : Bool → rows.State
@@ -52,9 +51,8 @@ module _ {o : State} {w : Work} (g : Good o) (f : Fit w) where
   ends-decided : (b : Bool) → Ends rows·decided (skip-is b) (interruptTest (decided b))
   ends-decided b =
       moved (λ (x : ℕ). inPlaces (withPc x o) (skipping (bit b) w)) (o .pc) (next (o .pc)) b (on-bit b) refl
-      (moved (lac-is b) lac (withoutAc lac) (on (flag 4 i)) refl (ap (lac-is b) (ac-cleared lac))
-      (moved (lac-is b) (cleared i lac) (withAc (cleared i lac) (bitOr (ac (cleared i lac)) (o .switches))) (on (flag 9 i)) refl
-      (ap (lac-is b) (ac-stored (cleared i lac) (or-lt wordBits (ac (cleared i lac)) (o .switches) (ac-lt (cleared i lac)) (g .switches))))
+      (moved (lac-is b) lac (withAc lac 0) (on (flag 4 i)) refl refl
+      (moved (lac-is b) (cleared i lac) (withAc (cleared i lac) (bitOr (ac (cleared i lac)) (o .switches))) (on (flag 9 i)) refl refl
       (moved (run-is b) (o .run) 0 (on (flag 10 i)) refl refl
       (jumps refl
       (ends-interrupt (skipping-fit (bit-lt b) f) (pick-either (λ (x : ℕ). x < 2 ^ wordBits) b (next-lt (o .pc)) (g .pc)) (g .enable) (g .request))))))

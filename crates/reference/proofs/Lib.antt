@@ -1,4 +1,5 @@
 pub mod Addresses
 pub mod Keeps
+pub mod Ops
 pub mod Refers
 pub mod Skips

@@ -8,10 +8,12 @@ use native.Mathlib.Omega.{arith}
 use Rattle.word.specs.Choice.{on}
 use Rattle.word.specs.Word.{wordBits, bits}
 use Rattle.machine.specs.declared.Processor.{Processor}
-use Rattle.machine.specs.State.{State, at, Good}
+use Rattle.machine.specs.State.{State, Good}
+use Rattle.machine.specs.Processor.{at}
 use Rattle.machine.specs.Instruction.{op, ib}
 use Rattle.machine.specs.Interrupt.{interruptTest}
-use Rattle.reference.specs.Address.{firstAddress, afterIndexing, Addressed}
+use Rattle.reference.specs.Address.{firstAddress, afterIndexing}
+use Rattle.reference.specs.Addressed.{Addressed}
 use Rattle.reference.specs.Reference.{operation, reference}
 use Rattle.reference.proofs.Addresses.{effective-lt, direct}
 use Rattle.reference.proofs.Keeps.{indexing-good}

@@ -2,15 +2,16 @@
 -- Assumes nothing.
 use mathlib.Core.Path.{_≡_, subst}
 use Prim.Native.Nat.{ℕ}
+use lib.Dec.{eqb}
 use borrow.Author.Tests.{eq-eqb, ne-eqb}
-use Rattle.word.specs.Choice.{choose}
+use Rattle.word.specs.Choice.{pick}
 use Rattle.word.specs.Word.{next}
 use Rattle.machine.specs.State.{State, word, stored, withPc}
 use Rattle.reference.specs.Reference.{incrementAndSkip}
 
 -- the state that op 2 leaves, of the increased word
 left : ℕ → ℕ → State → State
-left e w s = withPc (choose w (s .pc) (next (s .pc))) (stored e w s)
+left e w s = withPc (pick (eqb w 0) (next (s .pc)) (s .pc)) (stored e w s)
 
 pub isz-stays : (e w : ℕ) (s : State) → w ≡ next (word e s) → (w ≡ 0 → ⊥) → stored e w s ≡ incrementAndSkip e s
 unfolding left

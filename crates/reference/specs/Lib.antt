@@ -1,2 +1,3 @@
 pub mod Address
+pub mod Addressed
 pub mod Reference

@@ -3,14 +3,19 @@ use machine::memory::load;
 use machine::memory::store;
 ghost use mathlib.Core.Path.{_≡_};
 ghost use Prim.Native.Nat.{_^_, _<_};
-ghost use Rattle.word.specs.Choice.{choose};
+ghost use Rattle.word.specs.Choice.{on, pick};
 ghost use Rattle.word.specs.Word.{wordBits, bits};
 ghost use Rattle.state.specs.Acceptable.{Acceptable};
 ghost use Rattle.machine.specs.Instruction.{ib, pb, pa};
-ghost use Rattle.reference.specs.Address.{address, firstAddress, indexed, Addressed};
+ghost use Rattle.reference.specs.Address.{address, firstAddress, indexed};
+ghost use Rattle.reference.specs.Addressed.{Addressed};
 
 // Bit 4, pb.
 const CURRENT: u64 = 0o200;
+
+const PAGES: u64 = 32;
+
+const PAGE_WORDS: u64 = 128;
 
 // One of the 32 pages.
 pub struct PageNumber(pub u64);
@@ -23,15 +28,15 @@ fn joined(page: PageNumber, within: PageAddress) -> u64
     requires { ⌜ page .0 < 2 ^ 5 ⌝ ∗ ⌜ within .0 < 2 ^ 7 ⌝ }
     ensures { λ r. ⌜ r ≡ address (page .0) (within .0) ⌝ }
 {
-    page.0 * 128 + within.0
+    page.0 * PAGE_WORDS + within.0
 }
 
 // The page of an instruction that was fetched from `last`: page 0, or the page of `last` itself.
 fn page(i: u64, last: u64) -> PageNumber
-    ensures { λ r. ⌜ r .0 ≡ choose (pb i) (bits wordBits 0 4 last) 0 ⌝ }
+    ensures { λ r. ⌜ r .0 ≡ pick (on (pb i)) (bits wordBits 0 4 last) 0 ⌝ }
 {
     if i / CURRENT % 2 != 0 {
-        PageNumber(last / 128 % 32)
+        PageNumber(last / PAGE_WORDS % PAGES)
     } else {
         PageNumber(0)
     }
@@ -41,7 +46,7 @@ fn page(i: u64, last: u64) -> PageNumber
 fn page_address(i: u64) -> PageAddress
     ensures { λ r. ⌜ r .0 ≡ pa i ⌝ }
 {
-    PageAddress(i % 128)
+    PageAddress(i % PAGE_WORDS)
 }
 
 // The address before any indirection, which an instruction with ib = 0 works on.

@@ -1,12 +1,15 @@
 // Ops 0 to 5, each with the step's interrupt test at its end.
+use machine::LAC_VALUES;
 use machine::Processor;
 use machine::interrupt::interrupt_test;
 use machine::memory::load;
 use machine::memory::store;
+use word::WORD_VALUES;
 ghost use mathlib.Core.Path.{_≡_};
 ghost use Prim.Native.Nat.{_^_, _<_};
 ghost use Rattle.word.specs.Word.{wordBits};
-ghost use Rattle.machine.specs.State.{at, Good};
+ghost use Rattle.machine.specs.State.{Good};
+ghost use Rattle.machine.specs.Processor.{at};
 ghost use Rattle.reference.specs.Reference.{andTo, addTo, incrementAndSkip, deposit, callAt, jumpTo};
 ghost use Rattle.machine.specs.Interrupt.{interruptTest};
 
@@ -17,7 +20,7 @@ pub fn and_to(memory: &mut [u16], p: Processor, e: u64) -> Processor
 {
     let word = load(memory, e);
     let mut q = p;
-    q.lac = p.lac / 4096 * 4096 + (p.lac % 4096 & word);
+    q.lac = p.lac / WORD_VALUES * WORD_VALUES + (p.lac % WORD_VALUES & word);
     interrupt_test(memory, q)
 }
 
@@ -28,7 +31,7 @@ pub fn add_to(memory: &mut [u16], p: Processor, e: u64) -> Processor
 {
     let word = load(memory, e);
     let mut q = p;
-    q.lac = (p.lac + word) % 8192;
+    q.lac = (p.lac + word) % LAC_VALUES;
     interrupt_test(memory, q)
 }
 
@@ -52,9 +55,9 @@ pub fn deposit_at(memory: &mut [u16], p: Processor, e: u64) -> Processor
     requires { ⌜ Good (at p (now memory)) ⌝ ∗ ⌜ e < 2 ^ wordBits ⌝ }
     ensures { λ r. ⌜ at r (now (memory .exit)) ≡ interruptTest (deposit e (at p (now (memory .entry)))) ⌝ }
 {
-    store(memory, e, p.lac % 4096);
+    store(memory, e, p.lac % WORD_VALUES);
     let mut q = p;
-    q.lac = p.lac / 4096 * 4096;
+    q.lac = p.lac / WORD_VALUES * WORD_VALUES;
     interrupt_test(memory, q)
 }
 

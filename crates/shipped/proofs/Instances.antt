@@ -4,7 +4,7 @@
 use mathlib.Core.Path.{_≡_, ap, _∙_}
 use mathlib.Core.List.{List, []}
 use Prim.Native.Nat.{ℕ, zero, suc}
-use Rattle.word.specs.Choice.{on, choose}
+use Rattle.word.specs.Choice.{on, pick}
 use Rattle.word.proofs.Choice.{case-false}
 use Rattle.state.specs.declared.Reason.{Reason}
 use Rattle.state.specs.declared.Reason.the-variants.{Halted, Spent}
@@ -35,11 +35,11 @@ idle why registers memory = record { state = record { registers = registers; mem
 cycles-halted : (d : Description) (left : ℕ) (s : rows.State) → running d s ≡ 0
     → cycles.runFrom d left 0 (record { state = s; acted = [] }) ≡ record { state = s; steps = 0; reason = Halted; acted = [] }
 unfolding cycles.runFrom
-cycles-halted d zero s e = ap (λ (x : ℕ). record { state = s; steps = 0; reason = choose x Spent Halted; acted = [] }) e
+cycles-halted d zero s e = ap (λ (x : ℕ). record { state = s; steps = 0; reason = pick (on x) Spent Halted; acted = [] }) e
 cycles-halted d (suc left) s e =
     case-false (on (running d s)) (cycles.runFrom d left 1 (cycle (d .rows) s)) (cycles.ended d 0 (record { state = s; acted = [] }))
     (ap on e)
-    ∙ ap (λ (x : ℕ). record { state = s; steps = 0; reason = choose x Spent Halted; acted = [] }) e
+    ∙ ap (λ (x : ℕ). record { state = s; steps = 0; reason = pick (on x) Spent Halted; acted = [] }) e
 
 module _ (m : Machine) (registers memory list : List ℕ) where
   -- budget 0: 0 steps

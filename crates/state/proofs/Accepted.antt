@@ -14,14 +14,14 @@ use borrow.Author.Tests.{eqb-true, ltb-true, ltb-false, eq-eqb, lt-ltb, le-ltb}
 use Rattle.word.specs.Choice.{pick}
 use Rattle.word.specs.Word.{wordBits}
 use Rattle.state.specs.Limits.{memoryWords, budgetLimit, rowPlaces}
-use Rattle.state.specs.Checks.{firstUnfit, firstLargeWord, firstWideRegister, checkMemory, checkRegisters, checkBudget, checkState, checkRowList}
+use Rattle.state.specs.Checks.{firstTooWide, firstLargeWord, firstWideRegister, checkMemory, checkRegisters, checkBudget, checkState, checkRowList}
 use Rattle.state.specs.Refusals.{orElse}
 use Rattle.state.specs.Acceptable.{Acceptable, Fitting}
 use Rattle.state.specs.declared.Refusal.{Refusal}
 use Rattle.state.specs.declared.Refusal.the-variants.{MemoryLength, Budget, RowList}
 use Rattle.state.specs.declared.Verdict.{Verdict}
 use Rattle.state.specs.declared.Verdict.the-variants.{Fit, Unfit}
-use Rattle.state.proofs.Scan.{all-fit, none-unfit}
+use Rattle.state.proofs.Scan.{all-fit, none-too-wide}
 
 -- a verdict by a test is fit only on the side that is
 fit-false : (b : Bool) (why : Refusal) (other : Verdict) → pick b (Unfit why) other ≡ Fit → (b ≡ false) × (other ≡ Fit)
@@ -33,7 +33,7 @@ fit-true true other why e = (refl, e)
 fit-true false other why e = (cc, cc)
 
 -- a scan that found nothing bounds every place, also past the list
-narrow-all : (width : ℕ → ℕ) (l : List ℕ) → length l ≤ firstUnfit width 0 l → (k : ℕ) → getD l k 0 < 2 ^ width k
+narrow-all : (width : ℕ → ℕ) (l : List ℕ) → length l ≤ firstTooWide width 0 l → (k : ℕ) → getD l k 0 < 2 ^ width k
 narrow-all width l h k =
     elim (decLt k (length l)) [
       | yes q ↦ ltb-true _ _ (all-fit width l h k q)
@@ -48,7 +48,7 @@ memory-acceptable memory e =
 
 pub acceptable-memory : (memory : List ℕ) → Acceptable memory → checkMemory memory ≡ Fit
 acceptable-memory memory a =
-    simp (eq-eqb _ _ (a .size), le-ltb _ _ (none-unfit (λ k. wordBits) memory (λ k q. lt-ltb _ _ (a .words k))))
+    simp (eq-eqb _ _ (a .size), le-ltb _ _ (none-too-wide (λ k. wordBits) memory (λ k q. lt-ltb _ _ (a .words k))))
 
 pub registers-fitting : (widths values : List ℕ) → checkRegisters widths values ≡ Fit → Fitting widths values
 registers-fitting widths values e =
@@ -57,7 +57,7 @@ registers-fitting widths values e =
 
 pub fitting-registers : (widths values : List ℕ) → Fitting widths values → checkRegisters widths values ≡ Fit
 fitting-registers widths values f =
-    simp (le-ltb _ _ (none-unfit (λ k. getD widths k 0) values (λ k q. lt-ltb _ _ (f .narrow k))))
+    simp (le-ltb _ _ (none-too-wide (λ k. getD widths k 0) values (λ k q. lt-ltb _ _ (f .narrow k))))
 
 pub budget-within : (budget : ℕ) → checkBudget budget ≡ Fit → budget ≤ budgetLimit
 budget-within budget e = ltb-false _ _ (fit-false (ltb budgetLimit budget) Budget Fit e .0)

@@ -15,17 +15,17 @@ use Rattle.state.specs.declared.Verdict.the-variants.{Fit, Unfit}
 
 -- "the lowest offending place, from 0": the first place, counted from `at`, whose value has more bits than `width` gives the place;
 -- the place past the last where all fit
-unfoldable pub firstUnfit : (ℕ → ℕ) → ℕ → List ℕ → ℕ
-firstUnfit width at [] = at
-firstUnfit width at (x ∷ xs) = elim (fits (width at) x) [ true ↦ firstUnfit width (suc at) xs | false ↦ at ]
+unfoldable pub firstTooWide : (ℕ → ℕ) → ℕ → List ℕ → ℕ
+firstTooWide width at [] = at
+firstTooWide width at (x ∷ xs) = elim (fits (width at) x) [ true ↦ firstTooWide width (suc at) xs | false ↦ at ]
 
 -- "12 a word above 4,095"
 abbrev pub firstLargeWord : List ℕ → ℕ
-firstLargeWord memory = firstUnfit (λ place. wordBits) 0 memory
+firstLargeWord memory = firstTooWide (λ place. wordBits) 0 memory
 
 -- "13 a register value wider than its register, or not 0 in the unused part": a place without a register has no bits
 abbrev pub firstWideRegister : List ℕ → List ℕ → ℕ
-firstWideRegister widths values = firstUnfit (λ place. getD widths place 0) 0 values
+firstWideRegister widths values = firstTooWide (λ place. getD widths place 0) 0 values
 
 -- "11 memory isn't 4,096 words", then 12
 abbrev pub checkMemory : List ℕ → Verdict

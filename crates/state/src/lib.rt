@@ -4,7 +4,7 @@ ghost use Prim.Native.Nat.{ℕ, _≤_};
 ghost use mathlib.Core.Path.{_≡_};
 ghost use lib.ListN.{getD};
 ghost use Rattle.word.specs.Word.{widest, fits};
-ghost use Rattle.state.specs.Checks.{firstUnfit, checkMemory, checkRegisters, checkBudget, checkState, checkRowList};
+ghost use Rattle.state.specs.Checks.{firstTooWide, checkMemory, checkRegisters, checkBudget, checkState, checkRowList};
 ghost use Rattle.state.specs.Refusals.{orElse};
 
 pub const MEMORY_WORDS: usize = 4096;
@@ -56,9 +56,9 @@ fn is_fit(widths: &[u64], beyond: u64, place: usize, value: u16) -> bool
 }
 
 // The lowest place whose value has more bits than the place may hold, or the number of values.
-fn first_unfit(widths: &[u64], beyond: u64, values: &[u16]) -> usize
+fn first_too_wide(widths: &[u64], beyond: u64, values: &[u16]) -> usize
     requires { ⌜ ((k : ℕ) → getD (now widths) k beyond ≤ widest) ⌝ }
-    ensures { λ r. ⌜ r ≡ firstUnfit (λ k. getD (now (widths .entry)) k beyond) 0 (now (values .entry)) ⌝ }
+    ensures { λ r. ⌜ r ≡ firstTooWide (λ k. getD (now (widths .entry)) k beyond) 0 (now (values .entry)) ⌝ }
 {
     let mut i = 0;
     while i < values.len() {
@@ -77,7 +77,7 @@ pub fn check_memory(memory: &[u16]) -> Verdict
     if memory.len() != MEMORY_WORDS {
         return Verdict::Unfit(Refusal::MemoryLength);
     }
-    let place = first_unfit(&[0; 0], WORD_BITS, memory);
+    let place = first_too_wide(&[0; 0], WORD_BITS, memory);
     if place < memory.len() {
         Verdict::Unfit(Refusal::Word(place))
     } else {
@@ -90,7 +90,7 @@ fn check_registers(widths: &[u64], values: &[u16]) -> Verdict
     requires { ⌜ ((k : ℕ) → getD (now widths) k 0 ≤ widest) ⌝ }
     ensures { λ r. ⌜ r ≡ checkRegisters (now (widths .entry)) (now (values .entry)) ⌝ }
 {
-    let place = first_unfit(widths, 0, values);
+    let place = first_too_wide(widths, 0, values);
     if place < values.len() {
         Verdict::Unfit(Refusal::Register(place))
     } else {

@@ -6,14 +6,11 @@ use Prim.Native.Nat.{ℕ, zero, suc, _<_}
 use mathlib.Core.Bool.{Bool, true, false, not, _&&_}
 use lib.Bits.{bitAnd}
 use borrow.Author.Tests.{ne-eqb}
-use Rattle.word.specs.Choice.{on, pick, choose, bit}
+use Rattle.word.specs.Choice.{on, pick, bit}
 
 pub pick-either : {A : Type 0} (P : A → Type 0) (b : Bool) {x y : A} → P x → P y → P (pick b x y)
 pick-either P true p q = p
 pick-either P false p q = q
-
-pub choose-either : {A : Type 0} (P : A → Type 0) (bit : ℕ) {x y : A} → P x → P y → P (choose bit x y)
-choose-either P bit p q = pick-either P (on bit) p q
 
 -- a case by a test whose value is known
 pub case-true {ℓ} : {A : Type ℓ} (b : Bool) (x y : A) → b ≡ true → elim b [ true ↦ x | false ↦ y ] ≡ x

@@ -1,4 +1,5 @@
--- The one test and the one choice that every definition of the machine, and later of the rows, goes by.
+-- The one test and the one choice that every definition of the machine, and later of the rows, goes by. Values are chosen by `pick`; the case is
+-- written out (`elim`) where a branch goes on with the definition itself, and where it stands for a part of a text or a whole run.
 -- Assumes nothing.
 use Prim.Native.Nat.{ℕ}
 use mathlib.Core.Bool.{Bool, true, false, not}
@@ -10,12 +11,7 @@ on x = not (eqb x 0)
 
 -- the first value where the test holds, else the second
 abbrev pub pick : {A : Type 0} → Bool → A → A → A
-pick true a b = a
-pick false a b = b
-
--- the first value where the bit is set, else the second
-abbrev pub choose : {A : Type 0} → ℕ → A → A → A
-choose bit a b = pick (on bit) a b
+pick t a b = elim t [ true ↦ a | false ↦ b ]
 
 -- a test as a bit
 abbrev pub bit : Bool → ℕ

@@ -38,7 +38,7 @@ withBits w a b x v = withField (w - 1 - b) (b - a + 1) x v
 abbrev pub join : ℕ → ℕ → ℕ → ℕ
 join k x y = x * 2 ^ k + y
 
--- "Not": each of w bits turned over
+-- "Not": each of w bits the other way
 abbrev pub complement : ℕ → ℕ → ℕ
 complement w x = 2 ^ w - 1 - x
 

@@ -3,6 +3,9 @@ ghost use mathlib.Core.Path.{_≡_};
 ghost use Prim.Native.Nat.{_^_, _≤_};
 ghost use Rattle.word.specs.Word.{widest, fits, next};
 
+// The number of a word's values.
+pub const WORD_VALUES: u64 = 4096;
+
 // The place value of the bit that has n bits on its right.
 fn power(n: u64) -> u64
     requires { ⌜ n ≤ widest ⌝ }
@@ -23,5 +26,5 @@ pub fn is_narrow(w: u64, x: u64) -> bool
 pub fn increment(x: u64) -> u64
     ensures { λ r. ⌜ r ≡ next x ⌝ }
 {
-    (std::num::wrapping_add_u16((x % 4096) as u16, 1) % 4096) as u64
+    std::num::wrapping_add_u16((x % WORD_VALUES) as u16, 1) as u64 % WORD_VALUES
 }

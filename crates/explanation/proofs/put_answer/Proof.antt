@@ -4,7 +4,7 @@ use native.Mathlib.Omega.{arith}
 use mathlib.Core.Path.{_≡_}
 use Prim.Native.Nat.{_≤_}
 use lib.ListN.{length}
-use Rattle.word.specs.Choice.{choose}
+use Rattle.word.specs.Choice.{on, pick}
 use Rattle.state.specs.declared.Reason.the-variants.{Halted, Spent}
 use Rattle.page.proofs.Numbers.{decimal-length}
 use Rattle.page.proofs.Writing.{written-then, written-page}
@@ -17,8 +17,8 @@ use Rattle.explanation.proofs.put_answer.Statement.{statement}
 use Rattle.explanation.proofs.put_answer.Tie as tie
 
 -- the bytes of the parts
-end-size : (start : tie.Start) → length (endLine (start .args .steps) (choose (start .args .m .run) Spent Halted)) ≤ 32
-end-size start = end-within (start .args .steps) (choose (start .args .m .run) Spent Halted) (search needs)
+end-size : (start : tie.Start) → length (endLine (start .args .steps) (pick (on (start .args .m .run)) Spent Halted)) ≤ 32
+end-size start = end-within (start .args .steps) (pick (on (start .args .m .run)) Spent Halted) (search needs)
 
 step-size : (start : tie.Start) → length (lastStep (start .args .steps) (start .args .pc) (start .args .before .now) (start .args .memory .now)) ≤ 198
 step-size start = let a = start .args in

@@ -7,19 +7,19 @@ use Rattle.state.proofs.check_memory.Tie as tie
 returns : tie.Need-returns
 returns c = simp (ne-eqb _ _ (c .if1 .taken))
 
-slice-aggregate-first-unfit : tie.Need-slice-aggregate-first-unfit
-slice-aggregate-first-unfit c = search needs
+slice-aggregate-first-too-wide : tie.Need-slice-aggregate-first-too-wide
+slice-aggregate-first-too-wide c = search needs
 
-first-unfit-requires : tie.Need-first-unfit-requires
-first-unfit-requires c κs = search needs
+first-too-wide-requires : tie.Need-first-too-wide-requires
+first-too-wide-requires c κs = search needs
 
 returns-2 : tie.Need-returns-2
-returns-2 c = simp (← c .before .first-unfit .ensures, eq-eqb _ _ (c .before .before .before .if1 .left), lt-ltb _ _ (c .if2 .taken))
+returns-2 c = simp (← c .before .first-too-wide .ensures, eq-eqb _ _ (c .before .before .before .if1 .left), lt-ltb _ _ (c .if2 .taken))
 
 returns-3 : tie.Need-returns-3
-returns-3 c = simp (← c .before .first-unfit .ensures, eq-eqb _ _ (c .before .before .before .if1 .left), le-ltb _ _ (c .if2 .left))
+returns-3 c = simp (← c .before .first-too-wide .ensures, eq-eqb _ _ (c .before .before .before .if1 .left), le-ltb _ _ (c .if2 .left))
 
 pub check-memory-spec : {M : Type 1} → statement M
 check-memory-spec =
     tie.close
-    (tie.spec returns slice-aggregate-first-unfit first-unfit-requires returns-2 returns-3)
+    (tie.spec returns slice-aggregate-first-too-wide first-too-wide-requires returns-2 returns-3)

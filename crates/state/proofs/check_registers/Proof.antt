@@ -4,14 +4,14 @@ use borrow.Author.Needs.{needs}
 use Rattle.state.proofs.check_registers.Statement.{statement}
 use Rattle.state.proofs.check_registers.Tie as tie
 
-first-unfit-requires : tie.Need-first-unfit-requires
-first-unfit-requires c κs = search needs
+first-too-wide-requires : tie.Need-first-too-wide-requires
+first-too-wide-requires c κs = search needs
 
 returns : tie.Need-returns
-returns c = simp (← c .before .first-unfit .ensures, lt-ltb _ _ (c .if1 .taken))
+returns c = simp (← c .before .first-too-wide .ensures, lt-ltb _ _ (c .if1 .taken))
 
 returns-2 : tie.Need-returns-2
-returns-2 c = simp (← c .before .first-unfit .ensures, le-ltb _ _ (c .if1 .left))
+returns-2 c = simp (← c .before .first-too-wide .ensures, le-ltb _ _ (c .if1 .left))
 
 pub check-registers-spec : {M : Type 1} → statement M
-check-registers-spec = tie.close (tie.spec first-unfit-requires returns returns-2)
+check-registers-spec = tie.close (tie.spec first-too-wide-requires returns returns-2)

@@ -6,7 +6,8 @@ use Prim.Native.Nat.{ℕ}
 use denote.Ref.{now}
 use Rattle.word.specs.Choice.{on}
 use Rattle.word.proofs.Choice.{case-true, case-false}
-use Rattle.machine.specs.State.{at, withPc, withEnable, withMemory}
+use Rattle.machine.specs.State.{withPc, withEnable, withMemory}
+use Rattle.machine.specs.Processor.{at}
 use Rattle.machine.specs.Interrupt.{interrupted, interruptTest}
 use Rattle.machine.proofs.Served.{served, unserved}
 use borrow.Author.Needs.{needs}

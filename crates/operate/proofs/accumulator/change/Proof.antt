@@ -10,16 +10,16 @@ use Rattle.operate.proofs.accumulator.change.Tie as tie
 kept-requires : tie.Need-kept-requires
 kept-requires c κs = search needs
 
-turned-over-requires : tie.Need-turned-over-requires
-turned-over-requires c κs = search needs
+complemented-bits-requires : tie.Need-complemented-bits-requires
+complemented-bits-requires c κs = search needs
 
 returns : tie.Need-returns
 returns c =
     let begin = c .before .before in
     let i = begin .args .i in
     let left = c .before .kept .ensures (begin .args .lac) (begin .pre) in
-    c .turned-over .ensures _ (rw left (linkCleared-lt i (cleared-lt i (begin .pre))))
+    c .complemented-bits .ensures _ (rw left (linkCleared-lt i (cleared-lt i (begin .pre))))
     ∙ ap (λ (x : ℕ). linkComplemented i (complemented i x)) left
 
 pub change-spec : {M : Type 1} → statement M
-change-spec = tie.close (tie.spec kept-requires turned-over-requires returns)
+change-spec = tie.close (tie.spec kept-requires complemented-bits-requires returns)

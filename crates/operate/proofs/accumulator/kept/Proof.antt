@@ -2,6 +2,7 @@
 use mathlib.Core.Path.{_∙_}
 use native.Mathlib.Omega.{arith}
 use lib.Bits.{and-zero-r}
+use Rattle.machine.proofs.Lac.{link-cleared}
 use Rattle.operate.proofs.Changes.{cleared-alike}
 use Rattle.operate.proofs.Masks.{and-lac, and-ac, and-link}
 use Rattle.operate.proofs.accumulator.kept.Statement.{statement}
@@ -11,7 +12,7 @@ returns : tie.Need-returns
 returns c = λ lac h. cleared-alike (c .before .args .i) 0 lac (c .match .keys1) (and-lac h)
 
 returns-2 : tie.Need-returns-2
-returns-2 c = λ lac h. cleared-alike (c .before .args .i) 0o100 lac (c .match .keys2) (and-ac lac)
+returns-2 c = λ lac h. cleared-alike (c .before .args .i) 0o100 lac (c .match .keys2) (and-ac lac ∙ link-cleared h)
 
 returns-3 : tie.Need-returns-3
 returns-3 c = λ lac h. cleared-alike (c .before .args .i) 0o200 lac (c .match .keys3) (and-link h)

@@ -2,7 +2,8 @@
 use mathlib.Core.Path.{sym, ap, _∙_}
 use Prim.Native.Nat.{ℕ}
 use denote.Ref.{now}
-use Rattle.machine.specs.State.{at, withLac}
+use Rattle.machine.specs.State.{withLac}
+use Rattle.machine.specs.Processor.{at}
 use Rattle.machine.specs.Interrupt.{interruptTest}
 use Rattle.word.specs.Choice.{on}
 use Rattle.word.proofs.Choice.{case-false}
@@ -30,12 +31,12 @@ same-length c = search needs
 returns : tie.Need-returns
 unfolding operate group1 changed
 returns c =
-    let turn = c .before .before .before .before in
-    let begin = turn .before .before .before in
+    let rotate = c .before .before .before .before in
+    let begin = rotate .before .before .before in
     let i = begin .args .i in
     let s = at (begin .args .p) (now (begin .args .memory)) in
     c .before .before .interrupt-test .ensures
-    ∙ ap (λ (x : ℕ). interruptTest (withLac x s)) (turn .increase-and-rotate .ensures ∙ ap (λ (x : ℕ). rotated i (increased i x)) (turn .before .change .ensures))
+    ∙ ap (λ (x : ℕ). interruptTest (withLac x s)) (rotate .increase-and-rotate .ensures ∙ ap (λ (x : ℕ). rotated i (increased i x)) (rotate .before .change .ensures))
     ∙ ap interruptTest (sym (case-false (on (flag 3 i)) _ (group1 i s) (ap on (begin .pre .1))))
 
 pub first-group-spec : {M : Type 1} → statement M

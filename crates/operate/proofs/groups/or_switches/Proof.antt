@@ -3,7 +3,7 @@ use native.Mathlib.Omega.{arith}
 use Prim.Native.Nat.{_%_}
 use borrow.Author.Tests.{eq-eqb, ne-eqb}
 use lib.Bits.{or-lt}
-use Rattle.machine.proofs.Lac.{ac-is}
+use Rattle.machine.proofs.Lac.{ac-is, ac-written}
 use borrow.Author.Needs.{needs}
 use Rattle.operate.proofs.groups.or_switches.Statement.{statement}
 use Rattle.operate.proofs.groups.or_switches.Tie as tie
@@ -15,7 +15,10 @@ add-result : tie.Need-add-result
 add-result c = let h = or-lt 12 (c .before .args .lac % 4096) (c .before .args .switches) (omega arith) (omega arith) in omega arith
 
 returns : tie.Need-returns
-returns c = simp (ne-eqb _ _ (c .if1 .taken), ac-is)
+returns c =
+    let begin = c .before in
+    let h = or-lt 12 (begin .args .lac % 4096) (begin .args .switches) (omega arith) (begin .pre .1) in
+    simp (ne-eqb _ _ (c .if1 .taken), ac-is) (ac-written (begin .args .lac) h)
 
 returns-2 : tie.Need-returns-2
 returns-2 c = simp (eq-eqb _ _ (c .if1 .left))

@@ -2,7 +2,7 @@
 use mathlib.Core.Path.{ap, _∙_}
 use denote.Ref.{now}
 use Rattle.machine.specs.Interrupt.{interruptTest}
-use Rattle.machine.specs.State.{at}
+use Rattle.machine.specs.Processor.{at}
 use Rattle.operate.specs.Operate.{switched}
 use native.Mathlib.Omega.{arith}
 use Rattle.operate.proofs.Changes.{cleared-lt}

@@ -2,7 +2,8 @@
 use mathlib.Core.Path.{ap, _∙_}
 use Prim.Native.Nat.{ℕ}
 use denote.Ref.{now}
-use Rattle.machine.specs.State.{at, withLac}
+use Rattle.machine.specs.State.{withLac}
+use Rattle.machine.specs.Processor.{at}
 use Rattle.machine.specs.Interrupt.{interruptTest}
 use Rattle.operate.specs.Operate.{group3}
 use borrow.Author.Needs.{needs}

@@ -4,8 +4,9 @@ use native.Mathlib.Omega.{arith}
 use borrow.Author.Needs.{needs}
 use mathlib.Core.Path.{_≡_, sym, ap, _∙_, subst}
 use Prim.Native.Nat.{ℕ, _+_, _-_, _≤_}
-use Rattle.word.specs.Choice.{on, choose}
-use Rattle.machine.specs.State.{State, at, Good}
+use Rattle.word.specs.Choice.{on, pick}
+use Rattle.machine.specs.State.{State, Good}
+use Rattle.machine.specs.Processor.{at}
 use Rattle.pdp8.specs.Run.{runFrom, run}
 use Rattle.pdp8.proofs.Keeps.{step-good}
 use Rattle.pdp8.proofs.Runs.{run-on, below-bound, run-bound}
@@ -14,7 +15,7 @@ use Rattle.pdp8.proofs.run.run.Tie as tie
 
 abbrev Inv-loop : tie.InvT-loop
 Inv-loop memory₀ budget q₀ steps₀ end₀ memory q steps end =
-    (steps ≤ budget) × Good (at q memory) × (run budget (at q₀ memory₀) ≡ runFrom (budget - steps) steps (at q memory)) × (end ≡ choose (q .run) budget 0)
+    (steps ≤ budget) × Good (at q memory) × (run budget (at q₀ memory₀) ≡ runFrom (budget - steps) steps (at q memory)) × (end ≡ pick (on (q .run)) budget 0)
 
 abbrev μ-loop : tie.MeasureT-loop
 μ-loop memory₀ budget q₀ steps₀ end₀ memory q steps end = budget - steps
@@ -53,7 +54,7 @@ loop-again c =
       omega (arith, below .0),
       subst Good (sym eq) (step-good (was .inv .1)),
       was .inv .2 ∙ run-on budget (was .steps) _ (below .0) (below .1) ∙ ap (λ (s : State). runFrom (budget - (was .steps + 1)) (was .steps + 1) s) (sym eq),
-      c .bound2 .ensures ∙ ap (λ (n : ℕ). choose (c .before .before .before .step .result .run) n 0) (below .2),
+      c .bound2 .ensures ∙ ap (λ (n : ℕ). pick (on (c .before .before .before .step .result .run)) n 0) (below .2),
     )
 
 same-length : tie.Need-same-length Inv-loop μ-loop

@@ -2,7 +2,7 @@
 use mathlib.Core.Path.{_∙_}
 use denote.Ref.{now}
 use borrow.Author.Needs.{needs}
-use Rattle.machine.specs.State.{at}
+use Rattle.machine.specs.Processor.{at}
 use Rattle.pdp8.proofs.Steps.{op-of, bit-3-of, op-left, counted-good, op-6, op-7, ops-0-to-5}
 use Rattle.pdp8.proofs.step.step.Statement.{statement}
 use Rattle.pdp8.proofs.step.step.Tie as tie

@@ -8,6 +8,7 @@ use borrow.Author.Tests.{eq-eqb, ne-eqb}
 use Rattle.word.specs.Choice.{pick}
 use Rattle.word.specs.Word.{next}
 use Rattle.reference.specs.Address.{indexed}
+use Rattle.reference.proofs.Addresses.{index-is}
 use borrow.Author.Needs.{needs}
 use Rattle.reference.proofs.address.auto_index.Statement.{statement}
 use Rattle.reference.proofs.address.auto_index.Tie as tie
@@ -33,14 +34,14 @@ returns c =
     let m = now (begin .memory) in
     c .before .before .store .ensures
     ∙ ap (λ (x : ℕ). set m (begin .a) x) (c .before .before .before .increment .ensures ∙ ap next (load .load .ensures))
-    ∙ sym (ap (λ (t : Bool). pick t (set m (begin .a) (next (getD m (begin .a) 0))) m) (eq-eqb _ _ (test .if1 .taken)))
+    ∙ sym (ap (λ (t : Bool). pick t (set m (begin .a) (next (getD m (begin .a) 0))) m) (index-is (begin .a) ∙ eq-eqb _ _ (test .if1 .taken)))
 
 returns-2 : tie.Need-returns-2
 unfolding indexed
 returns-2 c =
     let begin = c .before .before .args in
     let m = now (begin .memory) in
-    sym (ap (λ (t : Bool). pick t (set m (begin .a) (next (getD m (begin .a) 0))) m) (ne-eqb _ _ (c .if1 .left)))
+    sym (ap (λ (t : Bool). pick t (set m (begin .a) (next (getD m (begin .a) 0))) m) (index-is (begin .a) ∙ ne-eqb _ _ (c .if1 .left)))
 
 pub auto-index-spec : {M : Type 1} → statement M
 auto-index-spec =

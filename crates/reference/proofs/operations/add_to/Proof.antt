@@ -2,7 +2,8 @@
 use mathlib.Core.Path.{ap, _∙_}
 use Prim.Native.Nat.{ℕ, _+_, _%_, _^_}
 use denote.Ref.{now}
-use Rattle.machine.specs.State.{at, withLac, lacBits}
+use Rattle.machine.specs.State.{withLac, lacBits}
+use Rattle.machine.specs.Processor.{at}
 use Rattle.machine.specs.Interrupt.{interruptTest}
 use native.Mathlib.Omega.{arith}
 use borrow.Author.Needs.{needs}

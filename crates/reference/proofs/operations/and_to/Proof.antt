@@ -1,13 +1,14 @@
 -- `reference::and_to` is its operation, then the interrupt test.
-use mathlib.Core.Path.{sym, ap, _∙_}
-use Prim.Native.Nat.{ℕ, _%_, _^_}
+use mathlib.Core.Path.{sym, ap, ap₂, _∙_}
+use Prim.Native.Nat.{ℕ, _%_, _^_, _<_}
 use denote.Ref.{now}
 use Rattle.word.specs.Word.{wordBits}
-use Rattle.machine.specs.State.{at, word, withLac, withAc}
+use Rattle.machine.specs.State.{withLac, withAc}
+use Rattle.machine.specs.Processor.{at}
 use Rattle.machine.specs.Interrupt.{interruptTest}
 use lib.Bits.{bitAnd, and-le-l}
 use native.Mathlib.Omega.{arith}
-use Rattle.machine.proofs.Lac.{ac-is}
+use Rattle.machine.proofs.Lac.{ac-is, ac-written}
 use borrow.Author.Needs.{needs}
 use Rattle.reference.proofs.operations.and_to.Statement.{statement}
 use Rattle.reference.proofs.operations.and_to.Tie as tie
@@ -34,9 +35,11 @@ returns c =
     let load = c .before .before .before .before .before .before in
     let begin = load .before .before .before .args in
     let s = at (begin .p) (now (begin .memory)) in
+    let h = and-le-l (s .lac % 4096) (load .load .result) in
+    let narrow : bitAnd (s .lac % 4096) (load .load .result) < 2 ^ wordBits = omega (arith, h) in
     c .before .before .interrupt-test .ensures
-    ∙ ap (λ (w : ℕ). interruptTest (withLac (withAc (s .lac) (bitAnd (s .lac % 2 ^ wordBits) w)) s)) (load .load .ensures)
-    ∙ ap (λ (a : ℕ). interruptTest (withLac (withAc (s .lac) (bitAnd a (word (begin .e) s))) s)) (sym (ac-is (s .lac)))
+    ∙ ap (λ (l : ℕ). interruptTest (withLac l s)) (ac-written (s .lac) narrow)
+    ∙ ap₂ (λ (a w : ℕ). interruptTest (withLac (withAc (s .lac) (bitAnd a w)) s)) (sym (ac-is (s .lac))) (load .load .ensures)
 
 pub and-to-spec : {M : Type 1} → statement M
 and-to-spec =

@@ -2,7 +2,8 @@
 use mathlib.Core.Path.{ap, _∙_}
 use Prim.Native.Nat.{ℕ}
 use denote.Ref.{now}
-use Rattle.machine.specs.State.{at, stored, withPc, withMemory}
+use Rattle.machine.specs.State.{stored, withPc, withMemory}
+use Rattle.machine.specs.Processor.{at}
 use Rattle.machine.specs.Interrupt.{interruptTest}
 use mathlib.Core.List.{List}
 use borrow.Author.Needs.{needs}

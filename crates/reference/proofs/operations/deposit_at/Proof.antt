@@ -1,11 +1,12 @@
 -- `reference::deposit_at` is its operation, then the interrupt test.
-use mathlib.Core.Path.{sym, ap, _∙_}
-use Prim.Native.Nat.{ℕ}
+use mathlib.Core.Path.{sym, ap, ap₂, _∙_}
+use Prim.Native.Nat.{ℕ, _*_, _/_}
 use denote.Ref.{now}
-use Rattle.machine.specs.State.{at, stored, withLac, withMemory, withoutAc}
+use Rattle.machine.specs.State.{stored, withLac, withMemory}
+use Rattle.machine.specs.Processor.{at}
 use Rattle.machine.specs.Interrupt.{interruptTest}
 use mathlib.Core.List.{List}
-use Rattle.machine.proofs.Lac.{ac-is}
+use Rattle.machine.proofs.Lac.{ac-is, ac-cleared}
 use borrow.Author.Needs.{needs}
 use Rattle.reference.proofs.operations.deposit_at.Statement.{statement}
 use Rattle.reference.proofs.operations.deposit_at.Tie as tie
@@ -28,8 +29,8 @@ returns c =
     let begin = store .before .before .before .before .args in
     let s = at (begin .p) (now (begin .memory)) in
     c .before .before .interrupt-test .ensures
-    ∙ ap (λ (m : List ℕ). interruptTest (withLac (withoutAc (s .lac)) (withMemory m s))) (store .store .ensures)
-    ∙ ap (λ (a : ℕ). interruptTest (withLac (withoutAc (s .lac)) (stored (begin .e) a s))) (sym (ac-is (s .lac)))
+    ∙ ap (λ (m : List ℕ). interruptTest (withLac (s .lac / 4096 * 4096) (withMemory m s))) (store .store .ensures)
+    ∙ ap₂ (λ (l a : ℕ). interruptTest (withLac l (stored (begin .e) a s))) (ac-cleared (s .lac)) (sym (ac-is (s .lac)))
 
 pub deposit-at-spec : {M : Type 1} → statement M
 deposit-at-spec =

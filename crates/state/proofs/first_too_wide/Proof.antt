@@ -1,17 +1,17 @@
--- `state::first_unfit`: what is left to scan has the answer of the whole.
+-- `state::first_too_wide`: what is left to scan has the answer of the whole.
 use borrow.Author.Tests.{not-true, not-false}
 use borrow.Author.Needs.{needs}
 use mathlib.Core.Path.{_≡_, sym, _∙_}
 use Prim.Native.Nat.{ℕ, _-_, _≤_}
 use lib.ListN.{length, getD, drop}
-use Rattle.state.specs.Checks.{firstUnfit}
+use Rattle.state.specs.Checks.{firstTooWide}
 use Rattle.state.proofs.Scan.{scan-end, scan-stop, scan-on}
-use Rattle.state.proofs.first_unfit.Statement.{statement}
-use Rattle.state.proofs.first_unfit.Tie as tie
+use Rattle.state.proofs.first_too_wide.Statement.{statement}
+use Rattle.state.proofs.first_too_wide.Tie as tie
 
 abbrev Inv-loop : tie.InvT-loop
 Inv-loop widths beyond values i₀ i =
-    let width : ℕ → ℕ = λ k. getD widths k beyond in (i ≤ length values) × (firstUnfit width 0 values ≡ firstUnfit width i (drop i values))
+    let width : ℕ → ℕ = λ k. getD widths k beyond in (i ≤ length values) × (firstTooWide width 0 values ≡ firstTooWide width i (drop i values))
 
 abbrev μ-loop : tie.MeasureT-loop
 μ-loop widths beyond values i₀ i = length values - i
@@ -47,8 +47,8 @@ loop-again c = let at = c .before .before .before .before .loop in
 returns-2 : tie.Need-returns-2 Inv-loop μ-loop
 returns-2 c = sym (c .before .loop .inv .1 ∙ scan-end _ _ (c .before .loop .i) (c .loop-test .left))
 
-pub first-unfit-spec : {M : Type 1} → statement M
-first-unfit-spec =
+pub first-too-wide-spec : {M : Type 1} → statement M
+first-too-wide-spec =
     tie.close
     (tie.spec
     Inv-loop

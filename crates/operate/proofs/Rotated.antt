@@ -10,28 +10,28 @@ use Rattle.word.specs.Word.{wordBits, bits, rotatedLeft, rotatedRight}
 use Rattle.word.proofs.Rotation.{left-then-right}
 use Rattle.machine.specs.State.{lacBits}
 use Rattle.machine.specs.Instruction.{flag}
-use Rattle.operate.specs.Operate.{places, turnedLeft, turnedRight, rotated}
+use Rattle.operate.specs.Operate.{places, leftRotated, rightRotated, rotated}
 
 -- left where the second test holds, then right where the first does, by n places
-abbrev turned : Bool → Bool → ℕ → ℕ → ℕ
-turned right left n lac =
+abbrev bothWays : Bool → Bool → ℕ → ℕ → ℕ
+bothWays right left n lac =
     pick right (rotatedRight lacBits n (pick left (rotatedLeft lacBits n lac) lac)) (pick left (rotatedLeft lacBits n lac) lac)
 
 -- two instructions with the same bits 8 to 10 ask for the same: the code's arm is tied to the instruction that has no other bit
-pub turned-alike : (i j lac : ℕ) {r : ℕ} → bits wordBits 8 10 i ≡ bits wordBits 8 10 j → r ≡ turnedRight j (turnedLeft j lac) → r ≡ rotated i lac
+pub rotated-alike : (i j lac : ℕ) {r : ℕ} → bits wordBits 8 10 i ≡ bits wordBits 8 10 j → r ≡ rightRotated j (leftRotated j lac) → r ≡ rotated i lac
 unfolding rotated
-turned-alike i j lac same made =
+rotated-alike i j lac same made =
     let eight : flag 8 i ≡ flag 8 j = omega (arith, same) in
     let nine : flag 9 i ≡ flag 9 j = omega (arith, same) in
     let ten : flag 10 i ≡ flag 10 j = omega (arith, same) in
     rw (eight, nine, ten) made
 
 -- both ways or neither is no change
-back : (b : Bool) (n : ℕ) {lac : ℕ} → lac < 2 ^ lacBits → turned b b n lac ≡ lac
+back : (b : Bool) (n : ℕ) {lac : ℕ} → lac < 2 ^ lacBits → bothWays b b n lac ≡ lac
 back true n h = left-then-right lacBits (lit< tt) n h
 back false n h = refl
 
 pub unrotated : (i : ℕ) {lac : ℕ} → lac < 2 ^ lacBits → flag 8 i ≡ flag 9 i → rotated i lac ≡ lac
 unfolding rotated
 unrotated i {lac} h same =
-    ap (λ (b : ℕ). turned (on b) (on (flag 9 i)) (places i) lac) same ∙ back (on (flag 9 i)) (places i) h
+    ap (λ (b : ℕ). bothWays (on b) (on (flag 9 i)) (places i) lac) same ∙ back (on (flag 9 i)) (places i) h

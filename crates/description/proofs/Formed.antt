@@ -34,7 +34,7 @@ use Rattle.declaration.specs.Lines.{regWord, doWord, goWord, atWord, Progress, 
 use Rattle.targets.specs.Targets.{isAt, isRow, further, passes, MissingTarget, missingAt, noneMissing, firstMissing}
 use Rattle.row.specs.Lines.{addRow, addDo, doLine, rowsPassed, addGo, goLine}
 use Rattle.line.specs.Line.{isFit, readLine}
-use Rattle.description.specs.Description.{Answer, accepted, turnedDown, header, nothing, hasRun, finished, readLines, readBelow, readText}
+use Rattle.description.specs.Description.{Acceptance, accepted, turnedDown, header, nothing, hasRun, finished, readLines, readBelow, readText}
 use Rattle.description.specs.Formed.{FormedRow, FormedRows, Lands, Lower, Formed, labelsIn, Keeps}
 
 -- what is one word is no other
@@ -271,7 +271,7 @@ module _ (all : ℕ) (p : Progress) (l : Line) (ls : List Line) (h : Kept all p 
       (λ t. tt)
 
 -- the whole text
-abbrev Ends : ℕ → Answer → Type 0
+abbrev Ends : ℕ → Acceptance → Type 0
 Ends all (accepted d) = Formed d × (all ≤ mostLabels)
 Ends all (turnedDown f n) = Unit {0}
 

@@ -20,9 +20,9 @@ use Rattle.targets.specs.Targets.{missingAt, noneMissing, firstMissing}
 use Rattle.line.specs.Line.{readLine}
 
 -- "The answer is the number and line."
-pub data Answer : Type 0 where
-  accepted : Description → Answer
-  turnedDown : Fault → ℕ → Answer
+pub data Acceptance : Type 0 where
+  accepted : Description → Acceptance
+  turnedDown : Fault → ℕ → Acceptance
 
 abbrev pub runName : List ℕ
 runName = ascii "RUN"
@@ -32,7 +32,7 @@ abbrev pub hasRun : List Named → Bool
 hasRun rs = ltb (find runName rs) (length rs) && eqb (widthIn rs (find runName rs)) 1
 
 -- "Missing `go` targets are looked for after all lines, lowest line first, then 8" at the "line after the last", which is n; line 2 stands below the header
-unfoldable pub finished : List text.Line → Progress → ℕ → Answer
+unfoldable pub finished : List text.Line → Progress → ℕ → Acceptance
 finished all p n =
     elim (firstMissing 2 all) [
       | missingAt k ↦ turnedDown Label k
@@ -40,7 +40,7 @@ finished all p n =
     ]
 
 -- "Lines are taken in order", from line n on, of all the lines below the header
-unfoldable pub readLines : List text.Line → Progress → ℕ → List text.Line → Answer
+unfoldable pub readLines : List text.Line → Progress → ℕ → List text.Line → Acceptance
 readLines all p n [] = finished all p n
 readLines all p n (l ∷ ls) = elim (readLine p ls l) [ refused k ↦ turnedDown k n | next q ↦ readLines all q (n + 1) ls ]
 
@@ -48,7 +48,7 @@ abbrev pub nothing : Progress
 nothing = record { registers = []; labels = []; rows = [] }
 
 -- the lines below the header
-unfoldable pub readBelow : List text.Line → Answer
+unfoldable pub readBelow : List text.Line → Acceptance
 readBelow all = readLines all nothing 2 all
 
 -- "`rows`, TAB, `1`"
@@ -56,7 +56,7 @@ abbrev pub header : List ℕ
 header = ascii "rows\t1"
 
 -- "The first line must be exactly `rows`, TAB, `1`"; "text over 16,384 bytes (line 0)"
-unfoldable pub readText : List ℕ → Answer
+unfoldable pub readText : List ℕ → Acceptance
 readText s =
     elim (leb (length s) mostBytes) [
       | true ↦

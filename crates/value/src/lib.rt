@@ -1,8 +1,8 @@
 // The value of an expression, from its words: postfix, four places a word.
 use code::CODE_PLACES;
-use operation::operate;
-use shifts::power_of;
+use store::operation::operate;
 use store::register_value;
+use store::shifts::power_of;
 ghost use mathlib.Core.Path.{_≡_};
 ghost use Prim.Native.Nat.{_+_, _*_, _≤_};
 ghost use lib.ListN.{length, getD};

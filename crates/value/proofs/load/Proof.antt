@@ -3,7 +3,7 @@ use Prim.Native.Nat.{_/_}
 use native.Mathlib.Nat.{mod-le, div-le-self}
 use borrow.Author.Tests.{eq-eqb, ne-eqb}
 use Rattle.value.specs.Words.{loaded}
-use Rattle.shifts.proofs.Remainders.{narrow-is}
+use Rattle.store.proofs.Remainders.{narrow-is}
 use borrow.Author.Needs.{needs}
 use Rattle.value.proofs.load.Statement.{statement}
 use Rattle.value.proofs.load.Tie as tie

@@ -3,6 +3,7 @@ use code::CODE_PLACES;
 use store::operation::operate;
 use store::register_value;
 use store::shifts::power_of;
+use text_limits::REGISTERS;
 ghost use mathlib.Core.Path.{_≡_};
 ghost use Prim.Native.Nat.{_+_, _*_, _≤_};
 ghost use lib.ListN.{length, getD};
@@ -13,7 +14,7 @@ ghost use Rattle.value.specs.Words.{loaded, wordValue, pops as Words·po
 const STACK_PLACES: usize = 32;
 
 // A register, a bit part of one, or a constant.
-fn load(kind: u16, a: u16, b: u16, c: u16, r: &[u16; 16]) -> u16
+fn load(kind: u16, a: u16, b: u16, c: u16, r: &[u16; REGISTERS]) -> u16
     ensures { λ v. ⌜ v ≡ loaded (now (r .entry)) kind a b c ⌝ }
 {
     if kind == 2 {
@@ -43,7 +44,7 @@ fn pops(kind: u16) -> usize
 fn word_value(
     code: &[u16; CODE_PLACES],
     at: usize,
-    r: &[u16; 16],
+    r: &[u16; REGISTERS],
     memory: &[u16],
     x: u16,
     y: u16,
@@ -64,7 +65,13 @@ fn word_value(
 }
 
 // What n words from a place on come to.
-fn value_of(code: &[u16; CODE_PLACES], from: usize, n: usize, r: &[u16; 16], memory: &[u16]) -> u16
+fn value_of(
+    code: &[u16; CODE_PLACES],
+    from: usize,
+    n: usize,
+    r: &[u16; REGISTERS],
+    memory: &[u16],
+) -> u16
     requires { ⌜ from + 4 * n ≤ codePlaces ⌝ ∗ ⌜ length (now memory) ≡ memoryWords ⌝ }
     ensures { λ v. ⌜ v ≡ result (record { registers = now (r .entry); memory = now (memory .entry) }) (now (code .entry)) from n ⌝ }
 {
@@ -94,7 +101,7 @@ pub fn value_between(
     code: &[u16; CODE_PLACES],
     from: u16,
     to: u16,
-    r: &[u16; 16],
+    r: &[u16; REGISTERS],
     memory: &[u16],
 ) -> u16
     requires { ⌜ length (now memory) ≡ memoryWords ⌝ }

@@ -1,6 +1,7 @@
 // The operators, as the stored words of an expression have them: by number, over values of 16 bits.
 use crate::shifts::joined_to;
 use crate::shifts::power_of;
+use code::kinds;
 ghost use mathlib.Core.Path.{_≡_};
 ghost use Prim.Native.Nat.{_%_, _<_};
 ghost use Rattle.word.specs.Choice.{bit};
@@ -42,7 +43,7 @@ fn rotated_by(kind: u16, w: u16, b: u16, x: u16) -> u16
         return x;
     }
     let n = places(b, w);
-    if kind == 6 {
+    if kind == kinds::LEFT {
         exchanged(w - n, n, x)
     } else {
         exchanged(n, w - n, x)
@@ -61,11 +62,11 @@ fn combine(kind: u16, x: u16, y: u16) -> u16
     ensures { λ v. ⌜ v ≡ combined kind x y ⌝ }
 {
     match kind {
-        8 => ((x as u32 + y as u32) % 65536) as u16,
-        9 => bit_of(x == y),
-        10 => bit_of(!(x == y)),
-        11 => bit_of(x < y),
-        12 => x & y,
+        kinds::SUM => ((x as u32 + y as u32) % 65536) as u16,
+        kinds::EQUAL => bit_of(x == y),
+        kinds::UNEQUAL => bit_of(!(x == y)),
+        kinds::LESS => bit_of(x < y),
+        kinds::AND => x & y,
         _ => x | y,
     }
 }
@@ -74,13 +75,13 @@ fn combine(kind: u16, x: u16, y: u16) -> u16
 pub fn operate(kind: u16, a: u16, b: u16, x: u16, y: u16) -> u16
     ensures { λ v. ⌜ v ≡ operated kind a b x y ⌝ }
 {
-    if kind == 4 {
+    if kind == kinds::NOT {
         return turned_over(a, x);
     }
-    if kind == 5 {
+    if kind == kinds::JOIN {
         return joined_to(b, x, y);
     }
-    if kind < 8 {
+    if kind < kinds::SUM {
         rotated_by(kind, a % 32, b, x)
     } else {
         combine(kind, x, y)

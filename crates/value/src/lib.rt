@@ -1,5 +1,6 @@
 // The value of an expression, from its words: postfix, four places a word.
 use code::CODE_PLACES;
+use code::kinds;
 use store::operation::operate;
 use store::register_value;
 use store::shifts::power_of;
@@ -17,11 +18,11 @@ const STACK_PLACES: usize = 32;
 fn load(kind: u16, a: u16, b: u16, c: u16, r: &[u16; REGISTERS]) -> u16
     ensures { λ v. ⌜ v ≡ loaded (now (r .entry)) kind a b c ⌝ }
 {
-    if kind == 2 {
+    if kind == kinds::CONSTANT {
         return a;
     }
     let x = register_value(r, a);
-    if kind == 0 {
+    if kind == kinds::REGISTER {
         return x;
     }
     (x as u32 / power_of(b) % power_of(c)) as u16
@@ -31,13 +32,13 @@ fn load(kind: u16, a: u16, b: u16, c: u16, r: &[u16; REGISTERS]) -> u16
 fn pops(kind: u16) -> usize
     ensures { λ r. ⌜ r ≡ Words·pops kind ⌝ }
 {
-    if kind < 3 {
+    if kind < kinds::MEMORY {
         return 0;
     }
-    if kind == 5 {
+    if kind == kinds::JOIN {
         return 2;
     }
-    if kind < 8 { 1 } else { 2 }
+    if kind < kinds::SUM { 1 } else { 2 }
 }
 
 // What the word at a place yields of what stands at its place of the stack and behind it.
@@ -54,10 +55,10 @@ fn word_value(
         (getD (now (code .entry)) at 0) (getD (now (code .entry)) (at + 1) 0) (getD (now (code .entry)) (at + 2) 0) (getD (now (code .entry)) (at + 3) 0) x y ⌝ }
 {
     let kind = code[at];
-    if kind < 3 {
+    if kind < kinds::MEMORY {
         return load(kind, code[at + 1], code[at + 2], code[at + 3], r);
     }
-    if kind == 3 {
+    if kind == kinds::MEMORY {
         memory[(x % 4096) as usize]
     } else {
         operate(kind, code[at + 1], code[at + 2], x, y)

@@ -1,6 +1,7 @@
 // The value of an expression, from its words: postfix, four places a word.
 use code::CODE_PLACES;
 use code::kinds;
+use store::MEMORY_WORDS;
 use store::operation::operate;
 use store::register_value;
 use store::shifts::power_of;
@@ -59,7 +60,7 @@ fn word_value(
         return load(kind, code[at + 1], code[at + 2], code[at + 3], r);
     }
     if kind == kinds::MEMORY {
-        memory[(x % 4096) as usize]
+        memory[(x % MEMORY_WORDS) as usize]
     } else {
         operate(kind, code[at + 1], code[at + 2], x, y)
     }

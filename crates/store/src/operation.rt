@@ -7,11 +7,11 @@ ghost use Prim.Native.Nat.{_%_, _<_};
 ghost use Rattle.word.specs.Choice.{bit};
 ghost use Rattle.word.specs.Word.{swapped};
 ghost use Rattle.store.specs.Shifts.{cut};
-ghost use Rattle.store.specs.Operation.{turnedOver, rotatedBy, combined, operated};
+ghost use Rattle.store.specs.Operation.{complementOf, rotatedBy, combined, operated};
 
 // Not, over a bits.
-fn turned_over(a: u16, x: u16) -> u16
-    ensures { λ v. ⌜ v ≡ turnedOver a x ⌝ }
+fn complement_of(a: u16, x: u16) -> u16
+    ensures { λ v. ⌜ v ≡ complementOf a x ⌝ }
 {
     let p = power_of(a);
     ((p - 1 - x as u32 % p) % 65536) as u16
@@ -76,7 +76,7 @@ pub fn operate(kind: u16, a: u16, b: u16, x: u16, y: u16) -> u16
     ensures { λ v. ⌜ v ≡ operated kind a b x y ⌝ }
 {
     if kind == kinds::NOT {
-        return turned_over(a, x);
+        return complement_of(a, x);
     }
     if kind == kinds::JOIN {
         return joined_to(b, x, y);

@@ -10,14 +10,14 @@ ghost use mathlib.Core.Path.{_≡_};
 ghost use Prim.Native.Nat.{_+_, _*_, _≤_};
 ghost use lib.ListN.{length, getD};
 ghost use Rattle.state.specs.Limits.{memoryWords};
-ghost use Rattle.value.specs.Words.{loaded, wordValue, pops as Words·pops, result, codePlaces, between};
+ghost use Rattle.value.specs.Words.{leafValue, wordValue, pops as Words·pops, result, codePlaces, between};
 
 // The places of the stack: one for each piece that an expression may have.
 const STACK_PLACES: usize = 32;
 
 // A register, a bit part of one, or a constant.
-fn load(kind: u16, a: u16, b: u16, c: u16, r: &[u16; REGISTERS]) -> u16
-    ensures { λ v. ⌜ v ≡ loaded (now (r .entry)) kind a b c ⌝ }
+fn leaf_value(kind: u16, a: u16, b: u16, c: u16, r: &[u16; REGISTERS]) -> u16
+    ensures { λ v. ⌜ v ≡ leafValue (now (r .entry)) kind a b c ⌝ }
 {
     if kind == kinds::CONSTANT {
         return a;
@@ -57,7 +57,7 @@ fn word_value(
 {
     let kind = code[at];
     if kind < kinds::MEMORY {
-        return load(kind, code[at + 1], code[at + 2], code[at + 3], r);
+        return leaf_value(kind, code[at + 1], code[at + 2], code[at + 3], r);
     }
     if kind == kinds::MEMORY {
         memory[(x % MEMORY_WORDS) as usize]

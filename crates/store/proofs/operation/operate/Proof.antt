@@ -5,13 +5,13 @@ use borrow.Author.Needs.{needs}
 use Rattle.store.proofs.operation.operate.Statement.{statement}
 use Rattle.store.proofs.operation.operate.Tie as tie
 
-turned-over-requires : tie.Need-turned-over-requires
-turned-over-requires c κs = search needs
+complement-of-requires : tie.Need-complement-of-requires
+complement-of-requires c κs = search needs
 
 returns : tie.Need-returns
 unfolding operated
 returns c =
-    rw (eq-eqb (c .before .before .args .kind) 4 (c .before .if1 .taken)) (c .turned-over .ensures)
+    rw (eq-eqb (c .before .before .args .kind) 4 (c .before .if1 .taken)) (c .complement-of .ensures)
 
 joined-to-requires : tie.Need-joined-to-requires
 joined-to-requires c κs = search needs
@@ -46,7 +46,7 @@ pub operate-spec : {M : Type 1} → statement M
 operate-spec =
     tie.close
     (tie.spec
-    turned-over-requires
+    complement-of-requires
     returns
     joined-to-requires
     returns-2

@@ -1,15 +1,15 @@
--- `value::load`: kind by kind.
+-- `value::leaf_value`: kind by kind.
 use Prim.Native.Nat.{_/_}
 use native.Mathlib.Nat.{mod-le, div-le-self}
 use borrow.Author.Tests.{eq-eqb, ne-eqb}
-use Rattle.value.specs.Words.{loaded}
+use Rattle.value.specs.Words.{leafValue}
 use Rattle.store.proofs.Remainders.{narrow-is}
 use borrow.Author.Needs.{needs}
-use Rattle.value.proofs.load.Statement.{statement}
-use Rattle.value.proofs.load.Tie as tie
+use Rattle.value.proofs.leaf_value.Statement.{statement}
+use Rattle.value.proofs.leaf_value.Tie as tie
 
 returns : tie.Need-returns
-unfolding loaded
+unfolding leafValue
 returns c =
     rw (eq-eqb (c .before .args .kind) 2 (c .if1 .taken))
 
@@ -17,7 +17,7 @@ register-value-requires : tie.Need-register-value-requires
 register-value-requires c κs = search needs
 
 returns-2 : tie.Need-returns-2
-unfolding loaded
+unfolding leafValue
 returns-2 c =
     let kind = c .before .before .before .args .kind in
     rw (ne-eqb kind 2 (c .before .before .if1 .left), eq-eqb kind 0 (c .if2 .taken)) (narrow-is (search needs) (c .before .register-value .ensures))
@@ -45,7 +45,7 @@ cast-result-2 c =
     search needs
 
 returns-3 : tie.Need-returns-3
-unfolding loaded
+unfolding leafValue
 returns-3 c =
     let r = c .before .before .before in
     let kind = r .before .before .args .kind in
@@ -57,8 +57,8 @@ returns-3 c =
       c .power-of2 .ensures .is,
     )
 
-pub load-spec : {M : Type 1} → statement M
-load-spec =
+pub leaf-value-spec : {M : Type 1} → statement M
+leaf-value-spec =
     tie.close
     (tie.spec
     returns

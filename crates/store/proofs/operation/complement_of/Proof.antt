@@ -1,9 +1,9 @@
--- `operation::turned_over` is its definition.
-use Rattle.store.specs.Operation.{turnedOver}
+-- `operation::complement_of` is its definition.
+use Rattle.store.specs.Operation.{complementOf}
 use Rattle.store.proofs.Remainders.{remainder}
 use borrow.Author.Needs.{needs}
-use Rattle.store.proofs.operation.turned_over.Statement.{statement}
-use Rattle.store.proofs.operation.turned_over.Tie as tie
+use Rattle.store.proofs.operation.complement_of.Statement.{statement}
+use Rattle.store.proofs.operation.complement_of.Tie as tie
 
 power-of-requires : tie.Need-power-of-requires
 power-of-requires c κs = search needs
@@ -22,10 +22,10 @@ cast-result : tie.Need-cast-result
 cast-result c = search needs
 
 returns : tie.Need-returns
-unfolding turnedOver
+unfolding complementOf
 returns c =
     rw (c .power-of .ensures .is)
 
-pub turned-over-spec : {M : Type 1} → statement M
-turned-over-spec =
+pub complement-of-spec : {M : Type 1} → statement M
+complement-of-spec =
     tie.close (tie.spec power-of-requires sub-result rem-result sub-result-2 cast-result returns)

@@ -1,4 +1,5 @@
 pub mod Tree
+pub mod Kinds
 pub mod Code
 pub mod Readings
 pub mod Formed

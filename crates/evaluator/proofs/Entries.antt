@@ -23,7 +23,7 @@ use Rattle.state.specs.declared.Refusal.the-variants.{Register}
 use Rattle.state.specs.declared.Verdict.{Verdict}
 use Rattle.state.specs.declared.Verdict.the-variants.{Fit, Unfit}
 use Rattle.state.proofs.Accepted.{row-list-long, both-fit, state-sound}
-use Rattle.text_limits.specs.Limits.{mostRows}
+use Rattle.text_limits.specs.Limits.{mostRows, mostRegisters}
 use Rattle.characters.specs.Named.{Named, find}
 use Rattle.names.specs.Dictionaries.{entries}
 use Rattle.laws.proofs.Joined.{and-left}
@@ -46,7 +46,6 @@ use Rattle.description.specs.Stored.{judged, Leaves}
 use Rattle.description.proofs.Texts.{rowsOf, leaves-is, leaves-rows}
 use Rattle.description.proofs.Formed.{accepted-keeps}
 use Rattle.value.specs.Value.{State}
-use Rattle.value.specs.Fitting.{registerPlaces}
 use Rattle.value.specs.Fitting as fitting
 use Rattle.value.specs.Words.{codePlaces}
 use Rattle.value.proofs.Widths.{width-of}
@@ -116,13 +115,13 @@ module _ (text : List ℕ) (r : Findings) {code₀ code table₀ table : List �
 
     same-width : (k : ℕ) → getD (padded (r .registers)) k 0 ≡ getD (widthsOf described) k 0
     same-width k =
-        by-test (ltb k registerPlaces)
-        (λ t. padded-at (r .registers) k (ltb-true k registerPlaces t) ∙ width-told k)
-        (λ t. padded-past (r .registers) k (ltb-false k registerPlaces t) ∙ sym (none-past k (omega (arith, formed .few-registers, ltb-false k registerPlaces t))))
+        by-test (ltb k mostRegisters)
+        (λ t. padded-at (r .registers) k (ltb-true k mostRegisters t) ∙ width-told k)
+        (λ t. padded-past (r .registers) k (ltb-false k mostRegisters t) ∙ sym (none-past k (omega (arith, formed .few-registers, ltb-false k mostRegisters t))))
         ∙ sym (width-of (described .registers) k refl)
 
     -- RUN's place
-    run-below : find runName (described .registers) < registerPlaces
+    run-below : find runName (described .registers) < mostRegisters
     run-below =
         let rs = described .registers in
         let place = find runName rs in
@@ -130,7 +129,7 @@ module _ (text : List ℕ) (r : Findings) {code₀ code table₀ table : List �
         omega (arith, h, formed .few-registers)
 
     run-read : (place : ℕ) → place ≡ find runName (described .registers) → (s : State) → runAt place s ≡ running described s
-    run-read place e s = ap (λ (k : ℕ). getD (s .registers) k 0) (ap (λ (k : ℕ). k % registerPlaces) e ∙ mod-eq-of-lt run-below)
+    run-read place e s = ap (λ (k : ℕ). getD (s .registers) k 0) (ap (λ (k : ℕ). k % mostRegisters) e ∙ mod-eq-of-lt run-below)
 
     -- a state, and what the checks by the dictionary's widths found of it
     module _ (registers memory : List ℕ) (budget : ℕ) (list : List ℕ) {found : Verdict}
@@ -168,11 +167,11 @@ module _ (text : List ℕ) (r : Findings) {code₀ code table₀ table : List �
         run-ready =
             (omega (arith, stored .0, formed .few-rows), (sound .0 .size, row-list-long (length list) (outer .1)))
 
-        fits-registers : length registers ≡ registerPlaces → fitting.Fit (described .registers) start
+        fits-registers : length registers ≡ mostRegisters → fitting.Fit (described .registers) start
         fits-registers places =
             record { places = places; values = sound .1; words = sound .0 }
 
-        pub run-told : length registers ≡ registerPlaces → length code₀ ≡ codePlaces → length table₀ ≡ rowCells * mostRows
+        pub run-told : length registers ≡ mostRegisters → length code₀ ≡ codePlaces → length table₀ ≡ rowCells * mostRows
             → (place : ℕ) → place ≡ find runName (described .registers)
             → finished (coursing code table (r .rows) place budget start) list ≡ evaluate text registers memory budget list
         run-told places lc lt place p =

@@ -13,10 +13,10 @@ use Rattle.word.specs.Word.{widest}
 use Rattle.state.specs.Refusals.{orElse}
 use Rattle.state.specs.Checks.{checkState}
 use Rattle.state.specs.declared.Verdict.{Verdict}
+use Rattle.text_limits.specs.Limits.{mostRegisters}
 use Rattle.names.specs.declared.Dictionary.{Dictionary}
 use Rattle.laws.proofs.Tests.{by-test}
 use Rattle.evaluator.specs.Padded.{widthAt, widthsFrom, padded, checkPadded}
-use Rattle.value.specs.Fitting.{registerPlaces}
 
 -- n widths from place k on: their number, and each of them
 from-length : (d : Dictionary) (n k : ℕ) → length (widthsFrom d k n) ≡ n
@@ -30,29 +30,29 @@ from-at d zero k i h = absurd (omega arith)
 from-at d (suc n) k zero h = ap (widthAt d) (sym (add-zero k))
 from-at d (suc n) k (suc i) h = from-at d n (suc k) i (omega arith) ∙ ap (widthAt d) {x = suc k + i} {y = k + suc i} (omega arith)
 
-padded-length : (d : Dictionary) → length (padded d) ≡ registerPlaces
-padded-length d = from-length d registerPlaces 0
+padded-length : (d : Dictionary) → length (padded d) ≡ mostRegisters
+padded-length d = from-length d mostRegisters 0
 
-pub padded-at : (d : Dictionary) (k : ℕ) → k < registerPlaces → getD (padded d) k 0 ≡ widthAt d k
-padded-at d k h = from-at d registerPlaces 0 k h ∙ ap (widthAt d) (zero-add k)
+pub padded-at : (d : Dictionary) (k : ℕ) → k < mostRegisters → getD (padded d) k 0 ≡ widthAt d k
+padded-at d k h = from-at d mostRegisters 0 k h ∙ ap (widthAt d) (zero-add k)
 
-pub padded-past : (d : Dictionary) (k : ℕ) → registerPlaces ≤ k → getD (padded d) k 0 ≡ 0
+pub padded-past : (d : Dictionary) (k : ℕ) → mostRegisters ≤ k → getD (padded d) k 0 ≡ 0
 padded-past d k h = List·getD-eq-default (padded d) 0 (omega (arith, padded-length d, h))
 
 pub padded-le : (d : Dictionary) (w : List ℕ) → w ≡ padded d → ((k : ℕ) → widthAt d k ≤ widest) → (k : ℕ) → getD w k 0 ≤ widest
 padded-le d w e h k =
     subst (λ (l : List ℕ). getD l k 0 ≤ widest) (sym e)
-    (by-test (ltb k registerPlaces)
-    (λ t. subst (λ (n : ℕ). n ≤ widest) (sym (padded-at d k (ltb-true k registerPlaces t))) (h k))
-    (λ t. subst (λ (n : ℕ). n ≤ widest) (sym (padded-past d k (ltb-false k registerPlaces t))) (omega arith)))
+    (by-test (ltb k mostRegisters)
+    (λ t. subst (λ (n : ℕ). n ≤ widest) (sym (padded-at d k (ltb-true k mostRegisters t))) (h k))
+    (λ t. subst (λ (n : ℕ). n ≤ widest) (sym (padded-past d k (ltb-false k mostRegisters t))) (omega arith)))
 
 -- the widths so far
 pub record Filled (d : Dictionary) (i : ℕ) (w : List ℕ) : Type 0 where
-  pub within : i ≤ registerPlaces
-  pub size : length w ≡ registerPlaces
+  pub within : i ≤ mostRegisters
+  pub size : length w ≡ mostRegisters
   pub are : (k : ℕ) → k < i → getD w k 0 ≡ widthAt d k
 
-pub filled-next : (d : Dictionary) (i : ℕ) (w : List ℕ) (x : ℕ) → Filled d i w → i < registerPlaces → x ≡ widthAt d i → Filled d (i + 1) (set w i x)
+pub filled-next : (d : Dictionary) (i : ℕ) (w : List ℕ) (x : ℕ) → Filled d i w → i < mostRegisters → x ≡ widthAt d i → Filled d (i + 1) (set w i x)
 filled-next d i w x f h e =
     record {
       within = omega arith;
@@ -68,7 +68,7 @@ filled-next d i w x f h e =
     below : (k : ℕ) → k < i + 1 → (k ≡ i → ⊥) → k < i
     below k q n = omega arith
 
-pub filled-end : (d : Dictionary) (i : ℕ) (w : List ℕ) → Filled d i w → registerPlaces ≤ i → w ≡ padded d
+pub filled-end : (d : Dictionary) (i : ℕ) (w : List ℕ) → Filled d i w → mostRegisters ≤ i → w ≡ padded d
 filled-end d i w f h =
     ext-getD 0 w (padded d) (f .size ∙ sym (padded-length d)) (λ k q. f .are k (omega (arith, f .size)) ∙ sym (padded-at d k (omega (arith, f .size))))
 

@@ -6,6 +6,7 @@ use lib.ListN.{length, drop}
 use Rattle.state.specs.Refusals.{placeOf, reasonNumber, orElse}
 use Rattle.state.specs.Refusals as state
 use Rattle.state.specs.Checks.{checkState, checkRowList}
+use Rattle.state.specs.declared.Reason.{Reason}
 use Rattle.state.specs.declared.Verdict.{Verdict}
 use Rattle.state.specs.declared.Verdict.the-variants.{Fit, Unfit}
 use Rattle.characters.specs.Named.{Named}
@@ -38,19 +39,15 @@ abbrev pub refused : ℕ → ℕ → List ℕ → List ℕ → List ℕ → Repo
 refused number place registers memory list =
     record { number = number; place = place; steps = 0; reason = 0; listed = 0; registers = registers; memory = memory; list = list }
 
+-- a run: why it ended, steps done and rows listed, with what it leaves
+abbrev pub ran : Reason → ℕ → ℕ → List ℕ → List ℕ → List ℕ → Report
+ran why steps listed registers memory list =
+    record { number = 0; place = 0; steps = steps; reason = reasonNumber why; listed = listed; registers = registers; memory = memory; list = list }
+
 -- "The evaluator lists the rows that acted in its last cycle, rising; later places stay"
 abbrev pub finished : Run → List ℕ → Report
 finished r list =
-    record {
-      number = 0;
-      place = 0;
-      steps = r .steps;
-      reason = reasonNumber (r .reason);
-      listed = length (r .acted);
-      registers = r .state .registers;
-      memory = r .state .memory;
-      list = r .acted ++ drop (length (r .acted)) list;
-    }
+    ran (r .reason) (r .steps) (length (r .acted)) (r .state .registers) (r .state .memory) (r .acted ++ drop (length (r .acted)) list)
 
 -- the widths of a description's registers, in their order
 abbrev pub widthsOf : Description → List ℕ
@@ -74,8 +71,7 @@ evaluate text registers memory budget list = evaluateOf (readText text) register
 
 -- the numbers and values of each case of the evaluator's answer, with the memory and the row list that are left
 abbrev pub outcomeOf : Outcome → List ℕ → List ℕ → List ℕ → Report
-outcomeOf (Ran why steps rows) registers memory list =
-    record { number = 0; place = 0; steps = steps; reason = reasonNumber why; listed = rows; registers = registers; memory = memory; list = list }
+outcomeOf (Ran why steps listed) registers memory list = ran why steps listed registers memory list
 outcomeOf (Unread f n) registers memory list = refused (numberOf f) n registers memory list
 outcomeOf (Refused why) registers memory list = refused (state.numberOf why) (placeOf why) registers memory list
 

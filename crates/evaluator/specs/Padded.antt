@@ -8,8 +8,8 @@ use lib.ListN.{getD}
 use Rattle.word.specs.Choice.{pick}
 use Rattle.state.specs.Checks.{checkState}
 use Rattle.state.specs.declared.Verdict.{Verdict}
+use Rattle.text_limits.specs.Limits.{mostRegisters}
 use Rattle.names.specs.declared.Dictionary.{Dictionary}
-use Rattle.value.specs.Fitting.{registerPlaces}
 
 -- the width of the register at a place of a dictionary
 abbrev pub widthAt : Dictionary → ℕ → ℕ
@@ -22,7 +22,7 @@ widthsFrom d k (suc n) = widthAt d k ∷ widthsFrom d (suc k) n
 
 -- the sixteen places' widths
 abbrev pub padded : Dictionary → List ℕ
-padded d = widthsFrom d 0 registerPlaces
+padded d = widthsFrom d 0 mostRegisters
 
 abbrev pub checkPadded : Dictionary → List ℕ → List ℕ → ℕ → Verdict
 checkPadded d values memory budget = checkState (padded d) values memory budget

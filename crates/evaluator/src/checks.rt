@@ -2,6 +2,7 @@
 use names::Dictionary;
 use state::Verdict;
 use store::Registers;
+use text_limits::REGISTERS;
 ghost use mathlib.Core.Path.{_≡_};
 ghost use Prim.Native.Nat.{ℕ, _≤_};
 ghost use Rattle.word.specs.Word.{widest};
@@ -21,12 +22,12 @@ fn width_at(d: Dictionary, place: usize) -> u64
 }
 
 // The widths of the sixteen places.
-fn widths_of(d: Dictionary) -> [u64; 16]
+fn widths_of(d: Dictionary) -> [u64; REGISTERS]
     ensures { λ w. ⌜ w ≡ padded d ⌝ }
 {
-    let mut w = [0u64; 16];
+    let mut w = [0u64; REGISTERS];
     let mut i = 0;
-    while i < 16 {
+    while i < REGISTERS {
         w[i] = width_at(d, i);
         i += 1;
     }

@@ -5,9 +5,33 @@ ghost use lib.ListN.{getD};
 ghost use Rattle.text_limits.specs.Limits.{mostRows};
 ghost use Rattle.row_table.specs.RowTable.{rowCells};
 
-// The cells of a row: kind; where its condition's words start and end; where its address's and its value's end; register, right end and size of its
-// destination; rows passed over.
+// How many cells a row has.
 pub const ROW_CELLS: usize = 9;
+
+// Their places: its kind; where the words of its condition, of its address and of its value start, and where these end; the register, the right end and the size of its
+// destination; how many rows it passes over.
+pub const KIND: usize = 0;
+
+pub const CONDITION: usize = 1;
+
+pub const ADDRESS: usize = 2;
+
+pub const VALUE: usize = 3;
+
+pub const END: usize = 4;
+
+pub const REGISTER: usize = 5;
+
+pub const RIGHT: usize = 6;
+
+pub const SIZE: usize = 7;
+
+pub const PASSED: usize = 8;
+
+// The kinds of rows that are told apart when rows are run: a `do` into memory, and a `go`. Below them are those into a register.
+pub const TO_MEMORY: u16 = 2;
+
+pub const GO: u16 = 3;
 
 // The cells of 128 rows.
 pub const TABLE_CELLS: usize = 1152;

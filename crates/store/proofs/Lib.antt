@@ -1,2 +1,4 @@
+pub mod Powers
+pub mod Remainders
 pub mod Storing
 mod Choices

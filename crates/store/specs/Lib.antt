@@ -1,1 +1,3 @@
+pub mod Shifts
+pub mod Operation
 pub mod Stored

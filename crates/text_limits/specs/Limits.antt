@@ -1,4 +1,4 @@
--- The six limits of a description's text, each by its one name.
+-- The six limits of a description's text, each by its one name. The registers' limit is the number of the evaluator's places, too.
 -- Assumes nothing.
 use Prim.Native.Nat.{ℕ}
 

@@ -1,4 +1,5 @@
 pub mod OneRow
 pub mod Acts
 mod Effects
+mod Sums
 mod Planning

@@ -1,26 +1,29 @@
 // The value of an expression, from its words: postfix, four places a word.
 use code::CODE_PLACES;
-use operation::operate;
-use shifts::power_of;
+use code::kinds;
+use store::MEMORY_WORDS;
+use store::operation::operate;
 use store::register_value;
+use store::shifts::power_of;
+use text_limits::REGISTERS;
 ghost use mathlib.Core.Path.{_≡_};
 ghost use Prim.Native.Nat.{_+_, _*_, _≤_};
 ghost use lib.ListN.{length, getD};
 ghost use Rattle.state.specs.Limits.{memoryWords};
-ghost use Rattle.value.specs.Words.{loaded, wordValue, pops as Words·pops, result, codePlaces, between};
+ghost use Rattle.value.specs.Words.{leafValue, wordValue, pops as Words·pops, result, codePlaces, between};
 
 // The places of the stack: one for each piece that an expression may have.
 const STACK_PLACES: usize = 32;
 
 // A register, a bit part of one, or a constant.
-fn load(kind: u16, a: u16, b: u16, c: u16, r: &[u16; 16]) -> u16
-    ensures { λ v. ⌜ v ≡ loaded (now (r .entry)) kind a b c ⌝ }
+fn leaf_value(kind: u16, a: u16, b: u16, c: u16, r: &[u16; REGISTERS]) -> u16
+    ensures { λ v. ⌜ v ≡ leafValue (now (r .entry)) kind a b c ⌝ }
 {
-    if kind == 2 {
+    if kind == kinds::CONSTANT {
         return a;
     }
     let x = register_value(r, a);
-    if kind == 0 {
+    if kind == kinds::REGISTER {
         return x;
     }
     (x as u32 / power_of(b) % power_of(c)) as u16
@@ -30,20 +33,20 @@ fn load(kind: u16, a: u16, b: u16, c: u16, r: &[u16; 16]) -> u16
 fn pops(kind: u16) -> usize
     ensures { λ r. ⌜ r ≡ Words·pops kind ⌝ }
 {
-    if kind < 3 {
+    if kind < kinds::MEMORY {
         return 0;
     }
-    if kind == 5 {
+    if kind == kinds::JOIN {
         return 2;
     }
-    if kind < 8 { 1 } else { 2 }
+    if kind < kinds::SUM { 1 } else { 2 }
 }
 
 // What the word at a place yields of what stands at its place of the stack and behind it.
 fn word_value(
     code: &[u16; CODE_PLACES],
     at: usize,
-    r: &[u16; 16],
+    r: &[u16; REGISTERS],
     memory: &[u16],
     x: u16,
     y: u16,
@@ -53,18 +56,24 @@ fn word_value(
         (getD (now (code .entry)) at 0) (getD (now (code .entry)) (at + 1) 0) (getD (now (code .entry)) (at + 2) 0) (getD (now (code .entry)) (at + 3) 0) x y ⌝ }
 {
     let kind = code[at];
-    if kind < 3 {
-        return load(kind, code[at + 1], code[at + 2], code[at + 3], r);
+    if kind < kinds::MEMORY {
+        return leaf_value(kind, code[at + 1], code[at + 2], code[at + 3], r);
     }
-    if kind == 3 {
-        memory[(x % 4096) as usize]
+    if kind == kinds::MEMORY {
+        memory[(x % MEMORY_WORDS) as usize]
     } else {
         operate(kind, code[at + 1], code[at + 2], x, y)
     }
 }
 
 // What n words from a place on come to.
-fn value_of(code: &[u16; CODE_PLACES], from: usize, n: usize, r: &[u16; 16], memory: &[u16]) -> u16
+fn value_of(
+    code: &[u16; CODE_PLACES],
+    from: usize,
+    n: usize,
+    r: &[u16; REGISTERS],
+    memory: &[u16],
+) -> u16
     requires { ⌜ from + 4 * n ≤ codePlaces ⌝ ∗ ⌜ length (now memory) ≡ memoryWords ⌝ }
     ensures { λ v. ⌜ v ≡ result (record { registers = now (r .entry); memory = now (memory .entry) }) (now (code .entry)) from n ⌝ }
 {
@@ -94,7 +103,7 @@ pub fn value_between(
     code: &[u16; CODE_PLACES],
     from: u16,
     to: u16,
-    r: &[u16; 16],
+    r: &[u16; REGISTERS],
     memory: &[u16],
 ) -> u16
     requires { ⌜ length (now memory) ≡ memoryWords ⌝ }

@@ -12,41 +12,41 @@ mul-kind c = search needs
 element-copy-out-kind : tie.Need-element-copy-out-kind
 element-copy-out-kind c = search needs
 
-add-load : tie.Need-add-load
-add-load c = search needs
+add-leaf-value : tie.Need-add-leaf-value
+add-leaf-value c = search needs
 
-mul-load : tie.Need-mul-load
-mul-load c = search needs
+mul-leaf-value : tie.Need-mul-leaf-value
+mul-leaf-value c = search needs
 
-element-copy-out-load : tie.Need-element-copy-out-load
-element-copy-out-load c = search needs
+element-copy-out-leaf-value : tie.Need-element-copy-out-leaf-value
+element-copy-out-leaf-value c = search needs
 
-add-load-2 : tie.Need-add-load-2
-add-load-2 c = search needs
+add-leaf-value-2 : tie.Need-add-leaf-value-2
+add-leaf-value-2 c = search needs
 
-mul-load-2 : tie.Need-mul-load-2
-mul-load-2 c = search needs
+mul-leaf-value-2 : tie.Need-mul-leaf-value-2
+mul-leaf-value-2 c = search needs
 
-element-copy-out-load-2 : tie.Need-element-copy-out-load-2
-element-copy-out-load-2 c = search needs
+element-copy-out-leaf-value-2 : tie.Need-element-copy-out-leaf-value-2
+element-copy-out-leaf-value-2 c = search needs
 
-add-load-3 : tie.Need-add-load-3
-add-load-3 c = search needs
+add-leaf-value-3 : tie.Need-add-leaf-value-3
+add-leaf-value-3 c = search needs
 
-mul-load-3 : tie.Need-mul-load-3
-mul-load-3 c = search needs
+mul-leaf-value-3 : tie.Need-mul-leaf-value-3
+mul-leaf-value-3 c = search needs
 
-element-copy-out-load-3 : tie.Need-element-copy-out-load-3
-element-copy-out-load-3 c = search needs
+element-copy-out-leaf-value-3 : tie.Need-element-copy-out-leaf-value-3
+element-copy-out-leaf-value-3 c = search needs
 
-load-requires : tie.Need-load-requires
-load-requires c κs = search needs
+leaf-value-requires : tie.Need-leaf-value-requires
+leaf-value-requires c κs = search needs
 
 returns : tie.Need-returns
 unfolding wordValue
 returns c =
     let a = c .before .before .before .before .before .before .before .args in
-    rw (lt-ltb (getD (a .code .now) (a .at) 0) 3 (c .before .before .before .before .if1 .taken)) (c .load .ensures)
+    rw (lt-ltb (getD (a .code .now) (a .at) 0) 3 (c .before .before .before .before .if1 .taken)) (c .leaf-value .ensures)
 
 cast-result : tie.Need-cast-result
 cast-result c = search needs
@@ -98,16 +98,16 @@ word-value-spec =
     (tie.spec
     mul-kind
     element-copy-out-kind
-    add-load
-    mul-load
-    element-copy-out-load
-    add-load-2
-    mul-load-2
-    element-copy-out-load-2
-    add-load-3
-    mul-load-3
-    element-copy-out-load-3
-    load-requires
+    add-leaf-value
+    mul-leaf-value
+    element-copy-out-leaf-value
+    add-leaf-value-2
+    mul-leaf-value-2
+    element-copy-out-leaf-value-2
+    add-leaf-value-3
+    mul-leaf-value-3
+    element-copy-out-leaf-value-3
+    leaf-value-requires
     returns
     cast-result
     mul-result

@@ -2,7 +2,7 @@
 use mathlib.Core.Path.{refl}
 use Prim.Native.Nat.{_-_}
 use native.Mathlib.Omega.{arith}
-use Rattle.value.specs.Fitting.{registerPlaces}
+use Rattle.text_limits.specs.Limits.{mostRegisters}
 use Rattle.evaluator.proofs.Padding.{Filled, filled-next, filled-end}
 use borrow.Author.Needs.{needs}
 use Rattle.evaluator.proofs.checks.widths_of.Statement.{statement}
@@ -14,7 +14,7 @@ Inv-loop d w₀ i₀ w i =
 
 abbrev μ-loop : tie.MeasureT-loop
 μ-loop d w₀ i₀ w i =
-    registerPlaces - i
+    mostRegisters - i
 
 loop-holds : tie.Need-loop-holds Inv-loop μ-loop
 loop-holds c =

@@ -4,7 +4,7 @@ use mathlib.Core.List.{List, [], _++_}
 use Prim.Native.Nat.{ℕ}
 use Rattle.characters.specs.Ascii.{ascii}
 use Rattle.declaration.specs.Rows.{Description}
-use Rattle.description.specs.Description.{Answer, accepted, turnedDown, readText}
+use Rattle.description.specs.Description.{Acceptance, accepted, turnedDown, readText}
 
 unfoldable pub shippedText : List ℕ
 shippedText =
@@ -106,7 +106,7 @@ shippedText =
     ++ ascii "at\trestart\n"
 
 -- the description that was read; a text that is turned down has none
-abbrev pub described : Answer → Description
+abbrev pub described : Acceptance → Description
 described (accepted d) = d
 described (turnedDown fault line) = record { registers = []; rows = [] }
 

@@ -48,7 +48,7 @@ module _ {m : Machine} {registers memory : List ℕ} {budget : ℕ} {list : List
   evaluated : evaluate shippedText registers memory budget list ≡ evaluator.finished (cyclesOf registers memory budget) list
   unfolding evaluate evaluateOf
   evaluated =
-      ap (λ (a : text.Answer). evaluateOf a registers memory budget list) shipped-read
+      ap (λ (a : text.Acceptance). evaluateOf a registers memory budget list) shipped-read
       ∙ passed (check shipped registers memory budget list) (evaluator.finished (cyclesOf registers memory budget) list)
       (λ why. evaluator.refused (numberOf why) (placeOf why) registers memory list)
       (evaluator-passes s)

@@ -52,7 +52,7 @@ module _ (m : Machine) (registers memory : List ℕ) (budget : ℕ) (list : List
   unfolding evaluate evaluateOf
   unrefused e =
       passes (check shipped registers memory budget list) (finished (cyclesOf registers memory budget) list) registers memory list
-      (ap (λ (a : text.Answer). number (evaluateOf a registers memory budget list)) (sym shipped-read) ∙ e)
+      (ap (λ (a : text.Acceptance). number (evaluateOf a registers memory budget list)) (sym shipped-read) ∙ e)
 
   -- what the emulator refuses, the evaluator refuses too: so this is wherever neither refuses
   pub unrefused-agree : length registers ≡ mostRegisters → machinePart registers ≡ values m

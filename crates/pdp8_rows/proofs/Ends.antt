@@ -1,7 +1,7 @@
 -- Where rows end: from a state of the rows, the machine's state that they leave, with working registers that fit. A rule for each kind of row
 -- and of test. The judgement is nominal, so that rows, states and ends are compared and never half-run cycles.
 -- Assumes nothing.
-use mathlib.Core.Path.{_≡_, refl, sym, ap, _∙_, subst}
+use mathlib.Core.Path.{_≡_, refl, ap, _∙_}
 use mathlib.Core.Bool.{Bool, true, false, not}
 use mathlib.Core.List.{List, [], _∷_}
 use Prim.Native.Nat.{ℕ}
@@ -26,30 +26,24 @@ pub past : {o : State} {w : Work} → Fit w → Ends [] (inPlaces o w) o
 unfolding plain
 past {o} {w} f = record { left = w; fits = f; same = refl }
 
+-- rows from which a cycle goes on as it does from others
+goesOn : {rs qs : List Row} {s t : rows.State} {o : State} → plain rs 0 s ≡ plain qs 0 t → Ends qs t o → Ends rs s o
+goesOn e r = record { left = r .left; fits = r .fits; same = e ∙ r .same }
+
 -- another name of the same state
 pub seen : {rs : List Row} {s t : rows.State} {o : State} → s ≡ t → Ends rs t o → Ends rs s o
-seen {rs} {s} {t} {o} p e = subst (λ (x : rows.State). Ends rs x o) (sym p) e
+seen {rs} e r = goesOn (ap (plain rs 0) e) r
 
 module _ {c : Expr} {d : Destination} {e : Expr} {rs : List Row} where
   -- a `do` that acts, and leaves t
   pub acts : {s : rows.State} {o : State} (t : rows.State) → on (value s c) ≡ true → store s d (value s e) ≡ t → Ends rs t o → Ends (does c d e ∷ rs) s o
   unfolding plain
-  acts {s} {o} t test eq r =
-      record {
-        left = r .left;
-        fits = r .fits;
-        same = case-true (on (value s c)) (plain rs 0 (store s d (value s e))) (plain rs 0 s) test ∙ ap (plain rs 0) eq ∙ r .same;
-      }
+  acts {s} t test eq r = goesOn (case-true (on (value s c)) (plain rs 0 (store s d (value s e))) (plain rs 0 s) test ∙ ap (plain rs 0) eq) r
 
   -- one that does not
   pub idles : {s : rows.State} {o : State} → on (value s c) ≡ false → Ends rs s o → Ends (does c d e ∷ rs) s o
   unfolding plain
-  idles {s} {o} test r =
-      record {
-        left = r .left;
-        fits = r .fits;
-        same = case-false (on (value s c)) (plain rs 0 (store s d (value s e))) (plain rs 0 s) test ∙ r .same;
-      }
+  idles {s} test r = goesOn (case-false (on (value s c)) (plain rs 0 (store s d (value s e))) (plain rs 0 s) test) r
 
   -- a `do` by a test, that makes f y of f x
   pub moved : {A : Type 0} {o : State} (f : A → rows.State) (x y : A) (t : Bool) → on (value (f x) c) ≡ t → store (f x) d (value (f x) e) ≡ f y
@@ -61,21 +55,11 @@ module _ {c : Expr} {m : ℕ} {rs : List Row} where
   -- a `go` that acts, and one that does not
   pub jumps : {s : rows.State} {o : State} → on (value s c) ≡ true → Ends (drop m rs) s o → Ends (goes c m ∷ rs) s o
   unfolding plain
-  jumps {s} {o} test r =
-      record {
-        left = r .left;
-        fits = r .fits;
-        same = case-true (on (value s c)) (plain rs m s) (plain rs 0 s) test ∙ plain-drop rs m s ∙ r .same;
-      }
+  jumps {s} test r = goesOn (case-true (on (value s c)) (plain rs m s) (plain rs 0 s) test ∙ plain-drop rs m s) r
 
   pub stays : {s : rows.State} {o : State} → on (value s c) ≡ false → Ends rs s o → Ends (goes c m ∷ rs) s o
   unfolding plain
-  stays {s} {o} test r =
-      record {
-        left = r .left;
-        fits = r .fits;
-        same = case-false (on (value s c)) (plain rs m s) (plain rs 0 s) test ∙ r .same;
-      }
+  stays {s} test r = goesOn (case-false (on (value s c)) (plain rs m s) (plain rs 0 s) test) r
 
   -- a `go` by a test that decides the end
   pub decides : {s : rows.State} (P : Bool → State) (t : Bool) → on (value s c) ≡ t → Ends (drop m rs) s (P true) → Ends rs s (P false)

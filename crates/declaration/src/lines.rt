@@ -17,15 +17,13 @@ ghost use Rattle.characters.specs.Named.{among};
 ghost use Rattle.declaration.specs.Lines.{regWord, atWord, widthOf, isWidth, isNewName, addRegister, regLine, isNewLabel, addLabel, atLine};
 ghost use Rattle.declaration.specs.Stored.{Within, Plain};
 
-// What was read so far: registers and labels, the rows, words and pieces counted, whether a line of another kind than `reg` came, and the line of the
-// first `go` without its label, 0 if there is none.
+// What was read so far: registers and labels, the rows, words and pieces counted, and the line of the first `go` without its label, 0 if there is none.
 pub struct Progress {
     pub registers: Dictionary,
     pub labels: Dictionary,
     pub rows: usize,
     pub words: usize,
     pub pieces: usize,
-    pub begun: bool,
     pub missing: usize,
 }
 
@@ -135,7 +133,6 @@ fn add_label(text: &[u8], q: Progress, start: usize, label: &[u8]) -> Step
         if labels.count < limits::LABELS {
             let mut next = q;
             next.labels = names::with_name(labels, start as u16, label.len() as u16, 0);
-            next.begun = true;
             return taken(next);
         }
         return refused(q, Fault::Limit);
@@ -149,7 +146,7 @@ pub fn reg_line(text: &[u8], q: Progress, place: usize, line: &[u8]) -> Step
         ∗ ⌜ same (field 0 (now line)) regWord ≡ true ⌝ }
     ensures { λ r. ⌜ Plain (now (text .entry)) (λ p. regLine p (now (line .entry))) q r ⌝ }
 {
-    if fields::has_fields(line, 3) & !q.begun {
+    if fields::has_fields(line, 3) & (q.labels.count + q.rows == 0) {
         return add_register(
             text,
             q,

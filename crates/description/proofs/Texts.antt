@@ -8,7 +8,7 @@ use native.Mathlib.Omega.{arith}
 use lib.Dec.{eqb, leb, ltb}
 use lib.ListN.{length, getD, drop, length-drop, drop-of-length-le, replicate}
 use lib.Seq.{drop-drop}
-use borrow.Author.Tests.{ltb-true, leb-true, leb-false}
+use borrow.Author.Tests.{ne-eqb, ltb-true, leb-true, leb-false}
 use Rattle.characters.specs.Characters.{same}
 use Rattle.fields.specs.Fields as fields
 use Rattle.characters.specs.Ascii.{lineFeed}
@@ -27,20 +27,21 @@ use Rattle.declaration.specs.declared.lines.Progress as code
 use Rattle.declaration.specs.declared.lines.Status.{Status}
 use Rattle.declaration.specs.declared.lines.Status.the-variants.{Goes, Refused}
 use Rattle.declaration.specs.declared.lines.Step as taken
-use Rattle.declaration.specs.Rows.{Row}
+use Rattle.declaration.specs.Rows.{Row, piecesOf}
 use Rattle.text_limits.specs.Limits.{mostBytes, mostRows}
 use Rattle.declaration.specs.Lines.{Progress, refused, next}
 use Rattle.declaration.specs.Stored.{progressOf, stepBy, Within}
 use Rattle.code.specs.Met.{capacity}
 use Rattle.row.specs.Cells as cells
 use Rattle.row_table.specs.RowTable.{rowCells}
-use Rattle.row.specs.Stored.{Tables, Comes, Takes}
+use Rattle.targets.specs.Targets.{MissingTarget, missingAt, noneMissing, firstMissing, lacksLabel}
+use Rattle.row.specs.Stored.{Tables, Comes, Takes, firstGone}
 use Rattle.line.specs.Line.{readLine, Rest}
 use Rattle.description.specs.declared.reader.Answer as reader
 use Rattle.description.specs.declared.reader.Verdict.{Verdict}
 use Rattle.description.specs.declared.reader.Verdict.the-variants as verdict
-use Rattle.description.specs.Description.{Answer, turnedDown, header, runName, nothing, hasRun, finished, readLines, readText}
-use Rattle.description.specs.Stored.{unread, answerBy, Finishes, Tells, Answers}
+use Rattle.description.specs.Description.{Answer, turnedDown, header, runName, nothing, hasRun, finished, readLines, readBelow, readText}
+use Rattle.description.specs.Stored.{unread, answerBy, firstOf, Finishes, Tells, Answers}
 
 -- what is left of a text
 rest-drop : (text : List ℕ) (k : ℕ) → Rest text (drop k text)
@@ -68,37 +69,70 @@ rest-after text rest r =
 
 -- after all lines
 module _ (text : List ℕ) (q : code.Progress) (n : ℕ) where
+  -- what the code holds of the first missing target
+  found-by : (b : Bool) → eqb (q .missing) 0 ≡ b → firstOf (q .missing) noneMissing ≡ elim b [ true ↦ noneMissing | false ↦ missingAt (q .missing) ]
+  found-by b e = ap (λ (x : Bool). elim x [ true ↦ noneMissing | false ↦ missingAt (q .missing) ]) e
+
   pub label-missing : eqb (q .missing) 0 ≡ false → Finishes text q n (verdict.Refused Label (q .missing))
   unfolding finished
-  label-missing e rs = rw (e, finished)
+  label-missing e all rs m = rw (m ∙ found-by false e, finished)
 
   pub all-there : eqb (q .missing) 0 ≡ true → hasRun (entries text (q .registers)) ≡ true → Finishes text q n verdict.Accepted
   unfolding finished
-  all-there e f rs = rw (e, f, finished)
+  all-there e f all rs m = rw (m ∙ found-by true e, f, finished)
 
   pub no-run : eqb (q .missing) 0 ≡ true → hasRun (entries text (q .registers)) ≡ false → Finishes text q n (verdict.Refused Run n)
   unfolding finished
-  no-run e f rs = rw (e, f, finished)
+  no-run e f all rs m = rw (m ∙ found-by true e, f, finished)
 
 -- line by line
-module _ (p : Progress) (n : ℕ) (l : fields.Line) (ls : List fields.Line) where
-  one-line : (q : Progress) → readLine p n ls l ≡ next q → readLines p n (l ∷ ls) ≡ readLines q (n + 1) ls
+module _ (all : List fields.Line) (p : Progress) (n : ℕ) (l : fields.Line) (ls : List fields.Line) where
+  one-line : (q : Progress) → readLine p ls l ≡ next q → readLines all p n (l ∷ ls) ≡ readLines all q (n + 1) ls
   unfolding readLines
   one-line q e = rw (e, readLines)
 
-  bad-line : (f : Fault) → readLine p n ls l ≡ refused f → readLines p n (l ∷ ls) ≡ turnedDown f n
+  bad-line : (f : Fault) → readLine p ls l ≡ refused f → readLines all p n (l ∷ ls) ≡ turnedDown f n
   unfolding readLines
   bad-line f e = rw (e, readLines)
 
-no-lines : (p : Progress) (n : ℕ) → readLines p n [] ≡ finished p n
+no-lines : (all : List fields.Line) (p : Progress) (n : ℕ) → readLines all p n [] ≡ finished all p n
 unfolding readLines
-no-lines p n = refl
+no-lines all p n = refl
+
+-- the first missing target, a line further: the code's line n, or the one that it held
+gone-first : (b : Bool) (held n : ℕ) (x : MissingTarget) → 1 ≤ n
+    → firstOf held (elim b [ true ↦ missingAt n | false ↦ x ]) ≡ firstOf (firstGone b n held) x
+gone-first false held n x h = refl
+gone-first true held n x h =
+    by-test (eqb held 0)
+    (λ t. before n true t ∙ sym (after-this true t ∙ known n (ne-eqb n 0 (λ e. omega (arith, h, e)))))
+    (λ t. before n false t ∙ sym (after-this false t ∙ known held t))
+  where
+    before : (k : ℕ) (b : Bool) → eqb held 0 ≡ b → firstOf held (missingAt k) ≡ elim b [ true ↦ missingAt k | false ↦ missingAt held ]
+    before k b e = ap (λ (z : Bool). elim z [ true ↦ missingAt k | false ↦ missingAt held ]) e
+
+    after-this : (b : Bool) → eqb held 0 ≡ b → firstOf (firstGone true n held) x ≡ firstOf (elim b [ true ↦ n | false ↦ held ]) x
+    after-this b e = ap (λ (z : Bool). firstOf (elim z [ true ↦ n | false ↦ held ]) x) e
+
+    known : (k : ℕ) → eqb k 0 ≡ false → firstOf k x ≡ missingAt k
+    known k e = ap (λ (z : Bool). elim z [ true ↦ x | false ↦ missingAt k ]) e
+
+missing-next : (held n : ℕ) (l : fields.Line) (ls : List fields.Line) → 1 ≤ n
+    → firstOf held (firstMissing n (l ∷ ls)) ≡ firstOf (firstGone (lacksLabel (l .bytes) ls) n held) (firstMissing (n + 1) ls)
+unfolding firstMissing
+missing-next held n l ls h = gone-first (lacksLabel (l .bytes) ls) held n (firstMissing (n + 1) ls) h
+
+missing-last : (held n : ℕ) → firstOf held (firstMissing n []) ≡ firstOf held noneMissing
+unfolding firstMissing
+missing-last held n = refl
 
 -- what the loop over the lines keeps
 pub record Turning (text code₀ table₀ rest : List ℕ) (q : code.Progress) (n : ℕ) (code₁ table₁ : List ℕ) : Type 0 where
   pub rows : List Row
-  pub is : readLines nothing 2 (lines (after lineFeed text)) ≡ readLines (progressOf text q rows) n (lines rest)
-  pub tables : Tables rows (q .rows) (q .words) code₀ code₁ table₀ table₁
+  pub is : readBelow (lines (after lineFeed text)) ≡ readLines (lines (after lineFeed text)) (progressOf text q rows) n (lines rest)
+  pub missing-is : firstMissing 2 (lines (after lineFeed text)) ≡ firstOf (q .missing) (firstMissing n (lines rest))
+  pub below-header : 2 ≤ n
+  pub tables : Tables rows q code₀ code₁ table₀ table₁
   pub within : Within q
   pub left : Rest text rest
   pub count : n + length rest ≤ length text + 2
@@ -108,9 +142,13 @@ none-yet : (text : List ℕ) → progressOf text unread [] ≡ nothing
 unfolding entriesFrom
 none-yet text = refl
 
-no-rows : (code₀ table₀ : List ℕ) → Tables [] 0 0 code₀ code₀ table₀ table₀
-unfolding cells.code cells.cells
-no-rows code₀ table₀ = record { rows-are = refl; words-are = refl; code-is = refl; table-is = refl }
+no-rows : (code₀ table₀ : List ℕ) → Tables [] unread code₀ code₀ table₀ table₀
+unfolding cells.code cells.cells piecesOf
+no-rows code₀ table₀ = record { rows-are = refl; pieces-are = refl; words-are = refl; code-is = refl; table-is = refl }
+
+below-from : (text : List ℕ) → readBelow (lines (after lineFeed text)) ≡ readLines (lines (after lineFeed text)) (progressOf text unread []) 2 (lines (after lineFeed text))
+unfolding readBelow
+below-from text = ap (λ (p : Progress). readLines (lines (after lineFeed text)) p 2 (lines (after lineFeed text))) (sym (none-yet text))
 
 pub turn-start : (text code₀ table₀ rest : List ℕ) (q : code.Progress) → q ≡ unread → rest ≡ after lineFeed text
     → Turning text code₀ table₀ rest q 2 code₀ table₀
@@ -119,7 +157,9 @@ turn-start text code₀ table₀ rest q e f =
     (subst (λ (l : List ℕ). Turning text code₀ table₀ l unread 2 code₀ table₀) (sym f)
     (record {
       rows = [];
-      is = ap (λ (p : Progress). readLines p 2 (lines (after lineFeed text))) (sym (none-yet text));
+      is = below-from text;
+      missing-is = refl;
+      below-header = omega arith;
       tables = no-rows code₀ table₀;
       within = record { few-registers = omega arith; few-labels = omega arith; few-rows = omega arith; few-words = omega arith; few-pieces = omega arith };
       left = rest-drop text (until lineFeed text + 1);
@@ -129,19 +169,23 @@ turn-start text code₀ table₀ rest q e f =
 -- a line more
 module _ (text code₀ table₀ rest : List ℕ) (q : code.Progress) (n : ℕ) (code₁ table₁ : List ℕ) (t : Turning text code₀ table₀ rest q n code₁ table₁) where
   module _ (r : taken.Step) (code₂ table₂ : List ℕ) (h : 0 < length rest)
-      (k : Takes text (λ (p : Progress). readLine p n (lines (after lineFeed rest)) (firstLine rest)) q r code₁ code₂ table₁ table₂) where
+      (k : Takes text (λ (p : Progress). readLine p (lines (after lineFeed rest)) (firstLine rest))
+      (firstGone (lacksLabel (before lineFeed rest) (lines (after lineFeed rest))) n (q .missing)) q r code₁ code₂ table₁ table₂) where
+    abbrev all : List fields.Line
+    all = lines (after lineFeed text)
+
     abbrev now : Progress
     now = progressOf text q (t .rows)
 
-    abbrev came : Comes text (readLine now n (lines (after lineFeed rest)) (firstLine rest)) r code₀ code₂ table₀ table₂
+    abbrev came : Comes text (readLine now (lines (after lineFeed rest)) (firstLine rest)) r code₀ code₂ table₀ table₂
     came = k .comes (t .rows) code₀ table₀ (t .tables)
 
     came-to : (s : Status) → r .status ≡ s
-        → readLine now n (lines (after lineFeed rest)) (firstLine rest) ≡ stepBy s (progressOf text (r .progress) (came .rows))
+        → readLine now (lines (after lineFeed rest)) (firstLine rest) ≡ stepBy s (progressOf text (r .progress) (came .rows))
     came-to s e = came .is ∙ ap (λ (x : Status). stepBy x (progressOf text (r .progress) (came .rows))) e
 
-    opened : readLines now n (lines rest) ≡ readLines now n (firstLine rest ∷ lines (after lineFeed rest))
-    opened = ap (readLines now n) (first-line rest h)
+    opened : readLines all now n (lines rest) ≡ readLines all now n (firstLine rest ∷ lines (after lineFeed rest))
+    opened = ap (readLines all now n) (first-line rest h)
 
     pub turn-next : (rest′ : List ℕ) (q′ : code.Progress) → rest′ ≡ after lineFeed rest → q′ ≡ r .progress → r .status ≡ Goes
         → Turning text code₀ table₀ rest′ q′ (n + 1) code₂ table₂
@@ -150,25 +194,39 @@ module _ (text code₀ table₀ rest : List ℕ) (q : code.Progress) (n : ℕ) (
         (subst (λ (x : code.Progress). Turning text code₀ table₀ (after lineFeed rest) x (n + 1) code₂ table₂) (sym g)
         (record {
           rows = came .rows;
-          is = t .is ∙ opened ∙ one-line now n (firstLine rest) (lines (after lineFeed rest)) _ (came-to Goes e);
+          is = t .is ∙ opened ∙ one-line all now n (firstLine rest) (lines (after lineFeed rest)) _ (came-to Goes e);
+          missing-is =
+              t .missing-is
+              ∙ ap (λ (ls : List fields.Line). firstOf (q .missing) (firstMissing n ls)) (first-line rest h)
+              ∙ missing-next (q .missing) n (firstLine rest) (lines (after lineFeed rest)) (omega (arith, t .below-header))
+              ∙ ap (λ (m : ℕ). firstOf m (firstMissing (n + 1) (lines (after lineFeed rest)))) (sym (k .missing-is e));
+          below-header = omega (arith, t .below-header);
           tables = came .holds e;
           within = k .within;
           left = rest-after text rest (t .left);
           count = omega (arith, t .count, length-drop (until lineFeed rest + 1) rest, h);
         }))
 
-    pub turn-refused : (f : Fault) → r .status ≡ Refused f → readLines nothing 2 (lines (after lineFeed text)) ≡ turnedDown f n
-    turn-refused f e = t .is ∙ opened ∙ bad-line now n (firstLine rest) (lines (after lineFeed rest)) f (came-to (Refused f) e)
+    pub turn-refused : (f : Fault) → r .status ≡ Refused f → readBelow (lines (after lineFeed text)) ≡ turnedDown f n
+    turn-refused f e = t .is ∙ opened ∙ bad-line all now n (firstLine rest) (lines (after lineFeed rest)) f (came-to (Refused f) e)
+
+  abbrev below : List fields.Line
+  below = lines (after lineFeed text)
 
   -- past the last line
   pub turn-last : (a : reader.Answer) (v : Verdict) → length rest ≤ 0 → Finishes text q n v
       → a ≡ record { registers = q .registers; rows = q .rows; verdict = v }
-      → Tells text (readLines nothing 2 (lines (after lineFeed text))) a code₀ code₁ table₀ table₁
+      → Tells text (readBelow (lines (after lineFeed text))) a code₀ code₁ table₀ table₁
   turn-last a v h f e =
-      subst (λ (x : reader.Answer). Tells text (readLines nothing 2 (lines (after lineFeed text))) x code₀ code₁ table₀ table₁) (sym e)
+      subst (λ (x : reader.Answer). Tells text (readBelow (lines (after lineFeed text))) x code₀ code₁ table₀ table₁) (sym e)
       (record {
         rows = t .rows;
-        is = t .is ∙ ap (readLines (progressOf text q (t .rows)) n) (no-line rest h) ∙ no-lines (progressOf text q (t .rows)) n ∙ f (t .rows);
+        is =
+            t .is
+            ∙ ap (readLines below (progressOf text q (t .rows)) n) (no-line rest h)
+            ∙ no-lines below (progressOf text q (t .rows)) n
+            ∙ f below (t .rows)
+            (t .missing-is ∙ ap (λ (ls : List fields.Line). firstOf (q .missing) (firstMissing n ls)) (no-line rest h) ∙ missing-last (q .missing) n);
         rows-are = λ k. t .tables .rows-are;
         code-is = λ k. t .tables .code-is;
         table-is = λ k. t .tables .table-is;
@@ -242,7 +300,7 @@ module _ (s : List ℕ) where
   header-alone a b c = rw (a, b, c, readText)
 
   pub after-header : leb (length s) mostBytes ≡ true → same (before lineFeed s) header ≡ true → ltb (until lineFeed s) (length s) ≡ true
-      → readText s ≡ readLines nothing 2 (lines (after lineFeed s))
+      → readText s ≡ readBelow (lines (after lineFeed s))
   unfolding readText
   after-header a b c = rw (a, b, c, readText)
 

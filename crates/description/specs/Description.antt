@@ -16,6 +16,7 @@ use Rattle.declaration.specs.declared.faults.Fault.the-variants.{Size, Header, 
 use Rattle.declaration.specs.Rows.{Description}
 use Rattle.text_limits.specs.Limits.{mostBytes}
 use Rattle.declaration.specs.Lines.{Progress, refused, next}
+use Rattle.targets.specs.Targets.{missingAt, noneMissing, firstMissing}
 use Rattle.line.specs.Line.{readLine}
 
 -- "The answer is the number and line."
@@ -30,22 +31,25 @@ runName = ascii "RUN"
 abbrev pub hasRun : List Named → Bool
 hasRun rs = ltb (find runName rs) (length rs) && eqb (widthIn rs (find runName rs)) 1
 
--- "Missing `go` targets are looked for after all lines, lowest line first, then 8" at the "line after the last", which is n
-unfoldable pub finished : Progress → ℕ → Answer
-finished p n =
-    elim (eqb (p .missing) 0) [
-      | true ↦
-          elim (hasRun (p .registers)) [ true ↦ accepted (record { registers = p .registers; rows = p .rows }) | false ↦ turnedDown Run n ]
-      | false ↦ turnedDown Label (p .missing)
+-- "Missing `go` targets are looked for after all lines, lowest line first, then 8" at the "line after the last", which is n; line 2 stands below the header
+unfoldable pub finished : List text.Line → Progress → ℕ → Answer
+finished all p n =
+    elim (firstMissing 2 all) [
+      | missingAt k ↦ turnedDown Label k
+      | noneMissing ↦ elim (hasRun (p .registers)) [ true ↦ accepted (record { registers = p .registers; rows = p .rows }) | false ↦ turnedDown Run n ]
     ]
 
-abbrev pub nothing : Progress
-nothing = record { registers = []; labels = []; rows = []; pieces = 0; begun = false; missing = 0 }
+-- "Lines are taken in order", from line n on, of all the lines below the header
+unfoldable pub readLines : List text.Line → Progress → ℕ → List text.Line → Answer
+readLines all p n [] = finished all p n
+readLines all p n (l ∷ ls) = elim (readLine p ls l) [ refused k ↦ turnedDown k n | next q ↦ readLines all q (n + 1) ls ]
 
--- "Lines are taken in order", from line n on
-unfoldable pub readLines : Progress → ℕ → List text.Line → Answer
-readLines p n [] = finished p n
-readLines p n (l ∷ ls) = elim (readLine p n ls l) [ refused k ↦ turnedDown k n | next q ↦ readLines q (n + 1) ls ]
+abbrev pub nothing : Progress
+nothing = record { registers = []; labels = []; rows = [] }
+
+-- the lines below the header
+unfoldable pub readBelow : List text.Line → Answer
+readBelow all = readLines all nothing 2 all
 
 -- "`rows`, TAB, `1`"
 abbrev pub header : List ℕ
@@ -59,7 +63,7 @@ readText s =
           elim (same (before lineFeed s) header) [
             | true ↦
                 elim (ltb (until lineFeed s) (length s)) [
-                  | true ↦ readLines nothing 2 (lines (after lineFeed s))
+                  | true ↦ readBelow (lines (after lineFeed s))
                   | false ↦ turnedDown Line 1
                 ]
             | false ↦ turnedDown Header 1

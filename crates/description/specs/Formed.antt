@@ -10,7 +10,7 @@ use Rattle.characters.specs.Characters.{same}
 use Rattle.fields.specs.Fields.{Line, field}
 use Rattle.characters.specs.Named.{Named}
 use Rattle.code.specs.Formed.{Registers, Accepted, FormedDestination}
-use Rattle.declaration.specs.Rows.{Row, does, goes, rowPieces, Description}
+use Rattle.declaration.specs.Rows.{Row, does, goes, piecesOf, Description}
 use Rattle.text_limits.specs.Limits.{mostRegisters, mostRows, mostLabels, allPieces}
 use Rattle.declaration.specs.Lines.{atWord}
 use Rattle.description.specs.Description.{hasRun}
@@ -34,11 +34,6 @@ Lands (goes c k) n = k ≤ n
 abbrev pub Lower : ℕ → List Row → Type 0
 Lower n [] = Unit {0}
 Lower n (r ∷ more) = record { first : Lands r (length more + n); others : Lower n more }
-
--- the pieces of all rows
-unfoldable pub piecesOf : List Row → ℕ
-piecesOf [] = 0
-piecesOf (r ∷ more) = rowPieces r + piecesOf more
 
 -- "16 registers, 128 rows, .. 1,024 pieces pass"
 pub record Formed (d : Description) : Type 0 where

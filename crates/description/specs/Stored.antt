@@ -1,11 +1,14 @@
 -- What the reader's answer and the lent tables say of a text.
 -- Assumes nothing.
 use mathlib.Core.Path.{_≡_}
-use mathlib.Core.Bool.{false}
+use mathlib.Core.Bool.{true, false}
 use mathlib.Core.List.{List}
 use Prim.Native.Nat.{ℕ, _*_}
+use lib.Dec.{eqb}
 use lib.ListN.{length, replicate}
 use lib.Seq.{sets}
+use Rattle.fields.specs.Fields.{Line}
+use Rattle.targets.specs.Targets.{MissingTarget, missingAt, noneMissing, firstMissing}
 use Rattle.names.specs.Dictionaries.{entries, none}
 use Rattle.declaration.specs.declared.lines.Progress as progress
 use Rattle.declaration.specs.Rows.{Row, Description}
@@ -26,14 +29,19 @@ abbrev pub answerBy : Verdict → Description → Answer
 answerBy Accepted d = accepted d
 answerBy (verdict.Refused f n) d = turnedDown f n
 
--- what is looked for after all lines, whatever the rows are
+-- the first missing target: at the line that the code holds of the lines so far, or, where that is 0, among the lines that are left
+abbrev pub firstOf : ℕ → MissingTarget → MissingTarget
+firstOf held left = elim (eqb held 0) [ true ↦ left | false ↦ missingAt held ]
+
+-- what is looked for after all lines, whatever these and the rows are
 abbrev pub Finishes : List ℕ → progress.Progress → ℕ → Verdict → Type 0
 Finishes text q n v =
-    (rs : List Row) → finished (progressOf text q rs) n ≡ answerBy v (record { registers = entries text (q .registers); rows = rs })
+    (all : List Line) (rs : List Row) → firstMissing 2 all ≡ firstOf (q .missing) noneMissing
+    → finished all (progressOf text q rs) n ≡ answerBy v (record { registers = entries text (q .registers); rows = rs })
 
 -- the code's numbers before the first line
 abbrev pub unread : progress.Progress
-unread = record { registers = none; labels = none; rows = 0; words = 0; pieces = 0; begun = false; missing = 0 }
+unread = record { registers = none; labels = none; rows = 0; words = 0; pieces = 0; missing = 0 }
 
 -- what an answer tells of a text, with the rows behind it, whose words an accepted text leaves in the tables
 pub record Tells (text : List ℕ) (x : Answer) (r : reader.Answer) (code₀ code₁ table₀ table₁ : List ℕ) : Type 0 where

@@ -15,7 +15,7 @@ ghost use Rattle.fields.specs.Fields.{after, lines};
 ghost use Rattle.names.specs.Dictionaries.{entries, none};
 ghost use Rattle.text_limits.specs.Limits.{mostBytes};
 ghost use Rattle.description.specs.declared.reader.Verdict.the-variants as verdict;
-ghost use Rattle.description.specs.Description.{nothing, hasRun, readLines, readText};
+ghost use Rattle.description.specs.Description.{hasRun, readBelow, readText};
 ghost use Rattle.description.specs.Stored.{unread, Finishes, Tells, Answers};
 
 // What a text comes to.
@@ -64,7 +64,6 @@ fn start() -> Progress
         rows: 0,
         words: 0,
         pieces: 0,
-        begun: false,
         missing: 0,
     }
 }
@@ -83,7 +82,7 @@ fn turned_down(f: Fault, line: usize) -> Answer
 // The lines below the header.
 fn read_lines(text: &[u8], code: &mut [u16; CODE_PLACES], table: &mut [u16; TABLE_CELLS]) -> Answer
     requires { ⌜ length (now text) ≤ mostBytes ⌝ }
-    ensures { λ r. ⌜ Tells (now (text .entry)) (readLines nothing 2 (lines (after lineFeed (now (text .entry))))) r
+    ensures { λ r. ⌜ Tells (now (text .entry)) (readBelow (lines (after lineFeed (now (text .entry))))) r
         (now (code .entry)) (now (code .exit)) (now (table .entry)) (now (table .exit)) ⌝ }
 {
     let mut rest = fields::part_after(text, LINE_FEED);

@@ -15,6 +15,7 @@ use Rattle.characters.specs.Ascii.{lineFeed}
 use Rattle.fields.specs.Fields.{until, before, after, lines, field, firstLine}
 use Rattle.laws.proofs.Joined.{and-left, and-right}
 use Rattle.characters.proofs.Runs.{run-le}
+use Rattle.characters.proofs.Strings.{equal}
 use Rattle.fields.proofs.Lines.{before-length}
 use Rattle.declaration.specs.declared.faults.Fault.the-variants.{Line}
 use Rattle.declaration.specs.declared.lines.Progress as code
@@ -24,40 +25,50 @@ use Rattle.text_limits.specs.Limits.{longestLine}
 use Rattle.declaration.specs.Lines.{regWord, doWord, goWord, atWord, Progress, Step, refused, regLine, atLine}
 use Rattle.declaration.specs.Stored.{progressOf, Within}
 use Rattle.row.specs.Lines.{doLine, goLine}
-use Rattle.row.specs.Stored.{Takes}
+use Rattle.targets.specs.Targets.{passes, isMissing, lacksLabel}
+use Rattle.row.specs.Stored.{Takes, firstGone}
 use Rattle.row.proofs.RowLines.{takes-refused, takes-as}
 use Rattle.line.specs.Line.{isFit, readLine, Rest}
 
 -- a line, by its first word
-module _ (p : Progress) (n : ℕ) (below : List fields.Line) (l : fields.Line) where
+module _ (p : Progress) (below : List fields.Line) (l : fields.Line) where
   abbrev word : List ℕ
   word = field 0 (l .bytes)
 
-  line-unfit : isFit l ≡ false → readLine p n below l ≡ refused Line
+  line-unfit : isFit l ≡ false → readLine p below l ≡ refused Line
   unfolding readLine
   line-unfit e = rw (e, readLine)
 
-  line-reg : isFit l ≡ true → same word regWord ≡ true → readLine p n below l ≡ regLine p (l .bytes)
+  line-reg : isFit l ≡ true → same word regWord ≡ true → readLine p below l ≡ regLine p (l .bytes)
   unfolding readLine
   line-reg e a = rw (e, a, readLine)
 
-  line-do : isFit l ≡ true → same word regWord ≡ false → same word doWord ≡ true → readLine p n below l ≡ doLine p (l .bytes)
+  line-do : isFit l ≡ true → same word regWord ≡ false → same word doWord ≡ true → readLine p below l ≡ doLine p (l .bytes)
   unfolding readLine
   line-do e a b = rw (e, a, b, readLine)
 
-  line-go : isFit l ≡ true → same word regWord ≡ false → same word doWord ≡ false → same word goWord ≡ true → readLine p n below l ≡ goLine p n below (l .bytes)
+  line-go : isFit l ≡ true → same word regWord ≡ false → same word doWord ≡ false → same word goWord ≡ true → readLine p below l ≡ goLine p below (l .bytes)
   unfolding readLine
   line-go e a b c = rw (e, a, b, c, readLine)
 
   line-at : isFit l ≡ true → same word regWord ≡ false → same word doWord ≡ false → same word goWord ≡ false → same word atWord ≡ true
-      → readLine p n below l ≡ atLine p (l .bytes)
+      → readLine p below l ≡ atLine p (l .bytes)
   unfolding readLine
   line-at e a b c d = rw (e, a, b, c, d, readLine)
 
   line-unknown : isFit l ≡ true → same word regWord ≡ false → same word doWord ≡ false → same word goWord ≡ false → same word atWord ≡ false
-      → readLine p n below l ≡ refused Line
+      → readLine p below l ≡ refused Line
   unfolding readLine
   line-unknown e a b c d = rw (e, a, b, c, d, readLine)
+
+-- a `reg` or a `do` is no `go`
+reg-no-go : (s : List ℕ) → same s regWord ≡ true → same s goWord ≡ false
+unfolding same
+reg-no-go s e = ap (λ (l : List ℕ). same l goWord) (equal s regWord e)
+
+do-no-go : (s : List ℕ) → same s doWord ≡ true → same s goWord ≡ false
+unfolding same
+do-no-go s e = ap (λ (l : List ℕ). same l goWord) (equal s doWord e)
 
 -- the first line of a rest, in the text
 pub line-stands : (text rest line : List ℕ) → Rest text rest → line ≡ before lineFeed rest → line ≡ take (length line) (drop (length text - length rest) text)
@@ -87,52 +98,68 @@ module _ (text : List ℕ) (q : code.Progress) (n : ℕ) (rest line : List ℕ) 
   below = lines (after lineFeed rest)
 
   abbrev reads : fields.Line → Progress → Step
-  reads l p = readLine p n below l
+  reads l p = readLine p below l
 
-  abbrev Comes : (Progress → Step) → Type 0
-  Comes g = Takes text g q r code₁ code₂ table₁ table₂
+  -- the line of the first `go` without its label, with this line
+  abbrev gone : ℕ
+  gone = firstGone (lacksLabel (before lineFeed rest) below) n (q .missing)
+
+  abbrev Comes : (Progress → Step) → ℕ → Type 0
+  Comes g m = Takes text g m q r code₁ code₂ table₁ table₂
+
+  not-gone : same (field 0 line) goWord ≡ false → gone ≡ q .missing
+  not-gone e =
+      ap (λ (l : List ℕ). firstGone (lacksLabel l below) n (q .missing)) (sym first)
+      ∙ ap (λ (b : Bool). firstGone (b && isMissing (passes (field 2 line) below)) n (q .missing)) e
+
+  is-gone : same (field 0 line) goWord ≡ true → gone ≡ firstGone (isMissing (passes (field 2 line) below)) n (q .missing)
+  is-gone e =
+      ap (λ (l : List ℕ). firstGone (lacksLabel l below) n (q .missing)) (sym first)
+      ∙ ap (λ (b : Bool). firstGone (b && isMissing (passes (field 2 line) below)) n (q .missing)) e
 
   -- the line that was found is the rest's first, so what holds of it by the definition holds of that: it is taken so, or refused
   as-found : (p : Progress) → reads (firstLine rest) p ≡ reads (found rest line) p
   as-found p = ap (λ (l : List ℕ). reads (found rest l) p) (sym first)
 
-  comes-as : (g : Progress → Step) → ((p : Progress) → reads (found rest line) p ≡ g p) → Comes g → Comes (reads (firstLine rest))
-  comes-as g e = takes-as text (reads (firstLine rest)) g q r (λ rs. as-found (progressOf text q rs) ∙ e (progressOf text q rs))
+  comes-as : (g : Progress → Step) (m : ℕ) → gone ≡ m → ((p : Progress) → reads (found rest line) p ≡ g p) → Comes g m → Comes (reads (firstLine rest)) gone
+  comes-as g m i e = takes-as text (reads (firstLine rest)) g m gone q r (λ rs. as-found (progressOf text q rs) ∙ e (progressOf text q rs)) i
 
   comes-refused : ((p : Progress) → reads (found rest line) p ≡ refused Line) → r ≡ record { progress = q; status = Refused Line } → Within q
-      → Comes (reads (firstLine rest))
-  comes-refused e is h = takes-refused text (reads (firstLine rest)) q Line r is (λ rs. as-found (progressOf text q rs) ∙ e (progressOf text q rs)) h
+      → Comes (reads (firstLine rest)) gone
+  comes-refused e is h = takes-refused text (reads (firstLine rest)) gone q Line r is (λ rs. as-found (progressOf text q rs) ∙ e (progressOf text q rs)) h
 
-  pub comes-unfit : isFit (found rest line) ≡ false → r ≡ record { progress = q; status = Refused Line } → Within q → Comes (reads (firstLine rest))
-  comes-unfit e = comes-refused (λ p. line-unfit p n below (found rest line) e)
+  pub comes-unfit : isFit (found rest line) ≡ false → r ≡ record { progress = q; status = Refused Line } → Within q → Comes (reads (firstLine rest)) gone
+  comes-unfit e = comes-refused (λ p. line-unfit p below (found rest line) e)
 
   module _ (e : isFit (found rest line) ≡ true) (word : List ℕ) (zeroth : word ≡ field 0 line) where
     is-word : (w : List ℕ) (b : Bool) → same word w ≡ b → same (field 0 line) w ≡ b
     is-word w b i = ap (λ (l : List ℕ). same l w) (sym zeroth) ∙ i
 
-    pub comes-reg : same word regWord ≡ true → Comes (λ p. regLine p line) → Comes (reads (firstLine rest))
-    comes-reg a = comes-as (λ p. regLine p line) (λ p. line-reg p n below (found rest line) e (is-word regWord true a))
+    pub comes-reg : same word regWord ≡ true → Comes (λ p. regLine p line) (q .missing) → Comes (reads (firstLine rest)) gone
+    comes-reg a = comes-as (λ p. regLine p line) (q .missing) (not-gone (reg-no-go (field 0 line) (is-word regWord true a))) (λ p. line-reg p below (found rest line) e (is-word regWord true a))
 
     module _ (a : same word regWord ≡ false) where
-      pub comes-do : same word doWord ≡ true → Comes (λ p. doLine p line) → Comes (reads (firstLine rest))
-      comes-do b = comes-as (λ p. doLine p line) (λ p. line-do p n below (found rest line) e (is-word regWord false a) (is-word doWord true b))
+      pub comes-do : same word doWord ≡ true → Comes (λ p. doLine p line) (q .missing) → Comes (reads (firstLine rest)) gone
+      comes-do b = comes-as (λ p. doLine p line) (q .missing) (not-gone (do-no-go (field 0 line) (is-word doWord true b))) (λ p. line-do p below (found rest line) e (is-word regWord false a) (is-word doWord true b))
 
       module _ (b : same word doWord ≡ false) where
-        pub comes-go : same word goWord ≡ true → (tail : List ℕ) → tail ≡ after lineFeed rest → Comes (λ p. goLine p n (lines tail) line)
-            → Comes (reads (firstLine rest))
+        pub comes-go : same word goWord ≡ true → (tail : List ℕ) → tail ≡ after lineFeed rest
+            → Comes (λ p. goLine p (lines tail) line) (firstGone (isMissing (passes (field 2 line) (lines tail))) n (q .missing))
+            → Comes (reads (firstLine rest)) gone
         comes-go d tail i =
-            comes-as (λ p. goLine p n (lines tail) line)
+            comes-as (λ p. goLine p (lines tail) line) (firstGone (isMissing (passes (field 2 line) (lines tail))) n (q .missing))
+            (is-gone (is-word goWord true d) ∙ ap (λ (l : List ℕ). firstGone (isMissing (passes (field 2 line) (lines l))) n (q .missing)) (sym i))
             (λ p.
-            line-go p n below (found rest line) e (is-word regWord false a) (is-word doWord false b) (is-word goWord true d)
-            ∙ ap (λ (l : List ℕ). goLine p n (lines l) line) (sym i))
+            line-go p below (found rest line) e (is-word regWord false a) (is-word doWord false b) (is-word goWord true d)
+            ∙ ap (λ (l : List ℕ). goLine p (lines l) line) (sym i))
 
         module _ (d : same word goWord ≡ false) where
-          pub comes-at : same word atWord ≡ true → Comes (λ p. atLine p line) → Comes (reads (firstLine rest))
+          pub comes-at : same word atWord ≡ true → Comes (λ p. atLine p line) (q .missing) → Comes (reads (firstLine rest)) gone
           comes-at g =
-              comes-as (λ p. atLine p line)
-              (λ p. line-at p n below (found rest line) e (is-word regWord false a) (is-word doWord false b) (is-word goWord false d) (is-word atWord true g))
+              comes-as (λ p. atLine p line) (q .missing) (not-gone (is-word goWord false d))
+              (λ p. line-at p below (found rest line) e (is-word regWord false a) (is-word doWord false b) (is-word goWord false d) (is-word atWord true g))
 
-          pub comes-unknown : same word atWord ≡ false → r ≡ record { progress = q; status = Refused Line } → Within q → Comes (reads (firstLine rest))
+          pub comes-unknown : same word atWord ≡ false → r ≡ record { progress = q; status = Refused Line } → Within q → Comes (reads (firstLine rest)) gone
           comes-unknown g =
               comes-refused
-              (λ p. line-unknown p n below (found rest line) e (is-word regWord false a) (is-word doWord false b) (is-word goWord false d) (is-word atWord false g))
+              (λ p. line-unknown p below (found rest line) e (is-word regWord false a) (is-word doWord false b) (is-word goWord false d) (is-word atWord false g))

@@ -19,9 +19,9 @@ use Rattle.row.specs.Lines.{goLine, doLine}
 abbrev pub isFit : text.Line → Bool
 isFit l = l .ended && leb (length (l .bytes)) longestLine && eqb (run Printable (l .bytes)) (length (l .bytes))
 
--- line n, above the lines below it
-unfoldable pub readLine : Progress → ℕ → List text.Line → text.Line → Step
-readLine p n below l =
+-- a line, above the lines below it
+unfoldable pub readLine : Progress → List text.Line → text.Line → Step
+readLine p below l =
     elim (isFit l) [
       | true ↦
           elim (same (field 0 (l .bytes)) regWord) [
@@ -31,7 +31,7 @@ readLine p n below l =
                   | true ↦ doLine p (l .bytes)
                   | false ↦
                       elim (same (field 0 (l .bytes)) goWord) [
-                        | true ↦ goLine p n below (l .bytes)
+                        | true ↦ goLine p below (l .bytes)
                         | false ↦
                             elim (same (field 0 (l .bytes)) atWord) [ true ↦ atLine p (l .bytes) | false ↦ refused Line ]
                       ]

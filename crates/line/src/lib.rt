@@ -16,7 +16,8 @@ ghost use Rattle.characters.specs.Ascii.{lineFeed};
 ghost use Rattle.fields.specs.Fields.{until, before, after, lines, firstLine};
 ghost use Rattle.text_limits.specs.Limits.{mostBytes};
 ghost use Rattle.declaration.specs.Stored.{Within};
-ghost use Rattle.row.specs.Stored.{Takes};
+ghost use Rattle.targets.specs.Targets.{lacksLabel};
+ghost use Rattle.row.specs.Stored.{Takes, firstGone};
 ghost use Rattle.line.specs.Line.{isFit, readLine, Rest};
 
 // "200 bytes .. pass."
@@ -41,7 +42,8 @@ pub fn read_line(
     table: &mut [u16; TABLE_CELLS],
 ) -> Step
     requires { ⌜ Within q ⌝ ∗ ⌜ length (now text) ≤ mostBytes ⌝ ∗ ⌜ Rest (now text) (now rest) ⌝ }
-    ensures { λ r. ⌜ Takes (now (text .entry)) (λ p. readLine p n (lines (after lineFeed (now (rest .entry)))) (firstLine (now (rest .entry)))) q r
+    ensures { λ r. ⌜ Takes (now (text .entry)) (λ p. readLine p (lines (after lineFeed (now (rest .entry)))) (firstLine (now (rest .entry))))
+        (firstGone (lacksLabel (before lineFeed (now (rest .entry))) (lines (after lineFeed (now (rest .entry))))) n (q .missing)) q r
         (now (code .entry)) (now (code .exit)) (now (table .entry)) (now (table .exit)) ⌝ }
 {
     let line = fields::part_before(rest, LINE_FEED);

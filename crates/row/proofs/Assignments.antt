@@ -24,9 +24,8 @@ use Rattle.laws.proofs.Lists.{sets-behind}
 use Rattle.declaration.specs.Rows.{Row, does, addressPieces}
 use Rattle.row.specs.declared.cells.Aim.{Aim}
 use Rattle.row.specs.declared.actions.RowRead.{RowRead}
-use Rattle.row.specs.Lines.{formed, unformed, doRow}
 use Rattle.row.specs.Cells.{addressCode, rowCode, kindOf, registerOf, rightOf, sizeOf, cellsOf, doCells}
-use Rattle.row.specs.Stored.{Aiming, Aimed, HasRow, InOrder, aimOf}
+use Rattle.row.specs.Stored.{Aiming, Aimed, formed, unformed, doRow, HasRow, InOrder, aimOf}
 use Rattle.row.proofs.RowLines.{ReadAs}
 
 -- the cells of a destination whose address reaches to end

@@ -23,8 +23,9 @@ ghost use Rattle.code.specs.Met.{capacity};
 ghost use Rattle.text_limits.specs.Limits.{mostBytes, longestLine, mostRows};
 ghost use Rattle.declaration.specs.declared.lines.Status.the-variants.{Goes};
 ghost use Rattle.declaration.specs.Stored.{Within};
-ghost use Rattle.row.specs.Lines.{goLine, doLine, rowsPassed, missingAt};
-ghost use Rattle.row.specs.Stored.{Takes, oneMore, Put, Jumps, Assigns};
+ghost use Rattle.targets.specs.Targets.{isMissing, passes};
+ghost use Rattle.row.specs.Lines.{goLine, doLine, rowsPassed};
+ghost use Rattle.row.specs.Stored.{Takes, firstGone, oneMore, Put, Jumps, Assigns};
 
 // The rows passed over, 0 where the label is missing.
 fn rows_passed(target: Target) -> u16
@@ -38,7 +39,7 @@ fn rows_passed(target: Target) -> u16
 
 // The line of the first `go` without its label: line n, if this one's is missing and none was before it.
 fn missing_at(target: Target, n: usize, before: usize) -> usize
-    ensures { λ r. ⌜ r ≡ missingAt target n before ⌝ }
+    ensures { λ r. ⌜ r ≡ firstGone (isMissing target) n before ⌝ }
 {
     match target {
         Target::Passes(_) => before,
@@ -55,7 +56,6 @@ fn one_more(q: Progress, end: Cursor, missing: usize) -> Step
     next.rows = q.rows + 1;
     next.words = end.words;
     next.pieces = end.pieces;
-    next.begun = true;
     next.missing = missing;
     Step {
         progress: next,
@@ -113,7 +113,8 @@ pub fn go_line(
     table: &mut [u16; TABLE_CELLS],
 ) -> Step
     requires { ⌜ Within q ⌝ ∗ ⌜ length (now line) ≤ longestLine ⌝ ∗ ⌜ length (now below) ≤ mostBytes ⌝ }
-    ensures { λ r. ⌜ Takes (now (text .entry)) (λ p. goLine p n (Fields·lines (now (below .entry))) (now (line .entry))) q r
+    ensures { λ r. ⌜ Takes (now (text .entry)) (λ p. goLine p (Fields·lines (now (below .entry))) (now (line .entry)))
+        (firstGone (isMissing (passes (field 2 (now (line .entry))) (Fields·lines (now (below .entry))))) n (q .missing)) q r
         (now (code .entry)) (now (code .exit)) (now (table .entry)) (now (table .exit)) ⌝ }
 {
     if !fields::has_fields(line, 3) {
@@ -153,7 +154,7 @@ pub fn do_line(
     table: &mut [u16; TABLE_CELLS],
 ) -> Step
     requires { ⌜ Within q ⌝ ∗ ⌜ length (now line) ≤ longestLine ⌝ }
-    ensures { λ r. ⌜ Takes (now (text .entry)) (λ p. doLine p (now (line .entry))) q r
+    ensures { λ r. ⌜ Takes (now (text .entry)) (λ p. doLine p (now (line .entry))) (q .missing) q r
         (now (code .entry)) (now (code .exit)) (now (table .entry)) (now (table .exit)) ⌝ }
 {
     if !fields::has_fields(line, 4) {

@@ -1,7 +1,7 @@
--- `operator_names::is_reserved` is its definition, read off the calls.
+-- `names::is_reserved` is its definition, read off the calls.
 use borrow.Author.Needs.{needs}
-use Rattle.operator_names.proofs.is_reserved.Statement.{statement}
-use Rattle.operator_names.proofs.is_reserved.Tie as tie
+use Rattle.operators.proofs.names.is_reserved.Statement.{statement}
+use Rattle.operators.proofs.names.is_reserved.Tie as tie
 
 slice-aggregate-is-same : tie.Need-slice-aggregate-is-same
 slice-aggregate-is-same c = search needs

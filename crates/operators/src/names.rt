@@ -1,9 +1,9 @@
 // The names of the operators, and the names that no register may take.
-use operators::OPERATORS;
+use crate::OPERATORS;
 ghost use mathlib.Core.Path.{_≡_};
 ghost use lib.ListN.{drop};
 ghost use Prim.Native.Nat.{_+_};
-ghost use Rattle.operator_names.specs.OperatorNames.{operatorNames, findIn, operatorRow, isReserved};
+ghost use Rattle.operators.specs.OperatorNames.{operatorNames, findIn, operatorRow, isReserved};
 
 // The row of a token that names none of the first seven operators.
 fn row_from_7(token: &[u8]) -> usize

@@ -1,9 +1,9 @@
--- `operator_names::row_from_7`: name by name.
+-- `names::row_from_7`: name by name.
 use mathlib.Core.Path.{sym, _∙_}
-use Rattle.operator_names.specs.OperatorNames.{findIn}
+use Rattle.operators.specs.OperatorNames.{findIn}
 use borrow.Author.Needs.{needs}
-use Rattle.operator_names.proofs.row_from_7.Statement.{statement}
-use Rattle.operator_names.proofs.row_from_7.Tie as tie
+use Rattle.operators.proofs.names.row_from_7.Statement.{statement}
+use Rattle.operators.proofs.names.row_from_7.Tie as tie
 
 slice-aggregate-is-same : tie.Need-slice-aggregate-is-same
 slice-aggregate-is-same c = search needs

@@ -1,4 +1,6 @@
 // The table of words that stand for an expression, and how far reading has come.
+pub mod compounds;
+pub mod leaves;
 ghost use mathlib.Core.Path.{_≡_};
 ghost use mathlib.Core.List.{[], _∷_};
 ghost use Prim.Native.Nat.{_+_, _*_, _≤_, _<_};
@@ -25,7 +27,7 @@ pub enum Part {
 }
 
 // Puts a word into the table: its kind (0 a register, 1 a bit part, 2 a constant, 3 a memory word, from 4 on the operators) and three numbers.
-pub fn emit(code: &mut [u16; CODE_PLACES], words: usize, kind: u16, a: u16, b: u16, c: u16)
+fn emit(code: &mut [u16; CODE_PLACES], words: usize, kind: u16, a: u16, b: u16, c: u16)
     requires { ⌜ words < capacity ⌝ }
     ensures { λ _. ⌜ now (code .exit) ≡ sets (now (code .entry)) (4 * words) (kind ∷ a ∷ b ∷ c ∷ []) ⌝ }
 {
@@ -37,7 +39,7 @@ pub fn emit(code: &mut [u16; CODE_PLACES], words: usize, kind: u16, a: u16, b: u
 }
 
 // A cursor at a place, with one word and one piece more.
-pub fn one_more(c: Cursor, place: usize) -> Cursor
+fn one_more(c: Cursor, place: usize) -> Cursor
     requires { ⌜ c .words ≤ capacity ⌝ ∗ ⌜ c .pieces ≤ capacity ⌝ }
     ensures { λ r. ⌜ r ≡ record { place = place; words = c .words + 1; pieces = c .pieces + 1 } ⌝ }
 {

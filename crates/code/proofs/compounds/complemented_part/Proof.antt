@@ -1,8 +1,8 @@
 -- `compounds::complemented_part`: Not puts one word behind its operand.
-use Rattle.compounds.proofs.Making.{under-not}
+use Rattle.code.proofs.Making.{under-not}
 use borrow.Author.Needs.{needs}
-use Rattle.compounds.proofs.complemented_part.Statement.{statement}
-use Rattle.compounds.proofs.complemented_part.Tie as tie
+use Rattle.code.proofs.compounds.complemented_part.Statement.{statement}
+use Rattle.code.proofs.compounds.complemented_part.Tie as tie
 
 width-in-requires : tie.Need-width-in-requires
 width-in-requires c κs = search needs

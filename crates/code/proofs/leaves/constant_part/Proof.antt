@@ -6,17 +6,17 @@ use native.Mathlib.Omega.{arith}
 use Rattle.constants.specs.Constants.{constantAt}
 use Rattle.constants.specs.declared.Constant.{Constant}
 use Rattle.constants.specs.declared.Constant.the-variants.{Found}
 use Rattle.code.specs.declared.Cursor.{Cursor}
 use Rattle.code.specs.declared.Part.{Part}
 use Rattle.code.specs.Tree.{constant}
 use Rattle.code.specs.Readings.{ofConstant}
 use Rattle.code.specs.Code.{codeOf}
 use Rattle.code.specs.Met.{Leaf, Single}
 use Rattle.bit_parts.proofs.Onward.{constant-past}
 use Rattle.code.proofs.Parts.{no-leaf}
 use borrow.Author.Needs.{needs}
-use Rattle.leaves.proofs.constant_part.Statement.{statement}
-use Rattle.leaves.proofs.constant_part.Tie as tie
+use Rattle.code.proofs.leaves.constant_part.Statement.{statement}
+use Rattle.code.proofs.leaves.constant_part.Tie as tie
 
 -- a constant that was found
 found-leaf : (s : List ℕ) (c : Cursor) {x : Constant} → x ≡ constantAt s (c .place) → {v w p : ℕ} {y : Part} {before after : List ℕ} → x ≡ Found v w p

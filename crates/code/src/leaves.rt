@@ -1,9 +1,9 @@
 // Constants, registers and bit parts: what an expression has at its ends. Each puts its word into the table.
 use bit_parts::Reference;
-use code::CODE_PLACES;
-use code::Cursor;
-use code::Part;
-use code::WIDEST;
+use crate::CODE_PLACES;
+use crate::Cursor;
+use crate::Part;
+use crate::WIDEST;
 use constants::Constant;
 use names::Dictionary;
 ghost use mathlib.Core.Path.{_≡_};
@@ -33,8 +33,8 @@ fn leaf_part(
     ensures { λ r. ⌜ Single place width (kind ∷ x ∷ y ∷ z ∷ []) r c (now (code .entry)) (now (code .exit)) ⌝ }
 {
     if width <= WIDEST {
-        code::emit(code, c.words, kind, x, y, z);
-        Part::Found(code::one_more(c, place), width)
+        crate::emit(code, c.words, kind, x, y, z);
+        Part::Found(crate::one_more(c, place), width)
     } else {
         Part::Fault
     }

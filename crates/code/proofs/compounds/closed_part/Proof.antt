@@ -6,10 +6,10 @@ use borrow.Author.Tests.{eq-eqb, ne-eqb}
 use Rattle.tokens.specs.Tokens.{squareClose}
 use Rattle.laws.proofs.Lists.{present}
 use Rattle.tokens.proofs.Tokens.{at-mark, off-mark}
-use Rattle.compounds.proofs.Making.{left-open, square, round}
+use Rattle.code.proofs.Making.{left-open, square, round}
 use borrow.Author.Needs.{needs}
-use Rattle.compounds.proofs.closed_part.Statement.{statement}
-use Rattle.compounds.proofs.closed_part.Tie as tie
+use Rattle.code.proofs.compounds.closed_part.Statement.{statement}
+use Rattle.code.proofs.compounds.closed_part.Tie as tie
 
 skip-spaces-requires : tie.Need-skip-spaces-requires
 skip-spaces-requires c κs = search needs

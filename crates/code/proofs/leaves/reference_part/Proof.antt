@@ -12,17 +12,17 @@ use Rattle.bit_parts.specs.declared.Reference.{Reference}
 use Rattle.bit_parts.specs.declared.Reference.the-variants as reference
 use Rattle.bit_parts.specs.References.{referenceAt}
 use Rattle.bit_parts.proofs.Onward.{Past, reference-past, bits-known}
 use Rattle.code.specs.declared.Cursor.{Cursor}
 use Rattle.code.specs.declared.Part.{Part}
 use Rattle.code.specs.declared.Part.the-variants.{Fault}
 use Rattle.code.specs.Tree.{register, bitPart}
 use Rattle.code.specs.Readings.{ofReference}
 use Rattle.code.specs.Code.{codeOf}
 use Rattle.code.specs.Met.{Leaf, Single}
 use Rattle.code.proofs.Parts.{no-leaf}
 use borrow.Author.Needs.{needs}
-use Rattle.leaves.proofs.reference_part.Statement.{statement}
-use Rattle.leaves.proofs.reference_part.Tie as tie
+use Rattle.code.proofs.leaves.reference_part.Statement.{statement}
+use Rattle.code.proofs.leaves.reference_part.Tie as tie
 
 -- what was read at a word, by its three cases
 module _ (rs : List Named) (s : List ℕ) (c : Cursor) {x : Reference} (e : x ≡ referenceAt rs s (c .place)) where

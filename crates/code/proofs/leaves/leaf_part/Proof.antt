@@ -1,10 +1,10 @@
 -- `leaves::leaf_part`: by its width.
 use mathlib.Core.Path.{refl}
 use mathlib.Core.List.{[], _∷_}
 use Rattle.code.proofs.Parts.{leaf, wide-leaf}
 use borrow.Author.Needs.{needs}
-use Rattle.leaves.proofs.leaf_part.Statement.{statement}
-use Rattle.leaves.proofs.leaf_part.Tie as tie
+use Rattle.code.proofs.leaves.leaf_part.Statement.{statement}
+use Rattle.code.proofs.leaves.leaf_part.Tie as tie
 
 emit-requires : tie.Need-emit-requires
 emit-requires c κs = search needs

@@ -3,8 +3,8 @@ use mathlib.Core.Path.{ap, _∙_}
 use Rattle.operators.specs.declared.Entry.{Entry}
 use Rattle.operators.specs.Operators.{widthBy}
 use borrow.Author.Needs.{needs}
-use Rattle.compounds.proofs.width_in.Statement.{statement}
-use Rattle.compounds.proofs.width_in.Tie as tie
+use Rattle.code.proofs.compounds.width_in.Statement.{statement}
+use Rattle.code.proofs.compounds.width_in.Tie as tie
 
 entry-in-requires : tie.Need-entry-in-requires
 entry-in-requires c κs = search needs

@@ -12,10 +12,10 @@ use Rattle.characters.specs.declared.Class.the-variants.{Space}
 use Rattle.characters.proofs.Runs.{onward}
 use Rattle.tokens.specs.Tokens.{skip}
 use Rattle.bit_parts.proofs.Onward.{decimal-past}
-use Rattle.compounds.proofs.Making.{rotates, large-count, no-count}
+use Rattle.code.proofs.Making.{rotates, large-count, no-count}
 use borrow.Author.Needs.{needs}
-use Rattle.compounds.proofs.rotated_part.Statement.{statement}
-use Rattle.compounds.proofs.rotated_part.Tie as tie
+use Rattle.code.proofs.compounds.rotated_part.Statement.{statement}
+use Rattle.code.proofs.compounds.rotated_part.Tie as tie
 
 -- a rotation stands in the table
 in-table : (row : ℕ) → entryIn row .strength ≡ rotations → row < length table

@@ -1,10 +1,10 @@
 // What is made of parts that were read: each puts its word behind those of its sides.
-use code::CODE_PLACES;
-use code::Cursor;
-use code::Part;
-use code::WIDEST;
-use code::emit;
-use code::one_more;
+use crate::CODE_PLACES;
+use crate::Cursor;
+use crate::Part;
+use crate::WIDEST;
+use crate::emit;
+use crate::one_more;
 use constants::Number;
 use operators::NOT;
 ghost use mathlib.Core.Path.{_≡_};

@@ -1,8 +1,8 @@
 -- `compounds::joined_part`: an operator puts one word behind its sides.
-use Rattle.compounds.proofs.Making.{joins, joins-not}
+use Rattle.code.proofs.Making.{joins, joins-not}
 use borrow.Author.Needs.{needs}
-use Rattle.compounds.proofs.joined_part.Statement.{statement}
-use Rattle.compounds.proofs.joined_part.Tie as tie
+use Rattle.code.proofs.compounds.joined_part.Statement.{statement}
+use Rattle.code.proofs.compounds.joined_part.Tie as tie
 
 width-in-requires : tie.Need-width-in-requires
 width-in-requires c κs = search needs

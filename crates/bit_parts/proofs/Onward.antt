@@ -28,7 +28,7 @@ use Rattle.bit_parts.specs.declared.Reference.{Reference}
 use Rattle.bit_parts.specs.declared.Reference.the-variants.{Whole, Part, Unknown}
 use Rattle.operators.specs.Operators.{table, entryIn}
 use Rattle.operators.proofs.Rows.{row-small}
-use Rattle.operator_names.specs.OperatorNames.{operatorNames, findIn, operatorRow}
+use Rattle.operators.specs.OperatorNames.{operatorNames, findIn, operatorRow}
 use Rattle.tokens.specs.Tokens.{angleOpen, angleClose, colon, skip, next, slice, tokenEnd, operatorAt, operatorEnd}
 use Rattle.bit_parts.specs.References.{secondBit, firstBit, spanAt, partOf, widthIn, registerAt, referenceAt}
 use Rattle.laws.proofs.Lists.{present}

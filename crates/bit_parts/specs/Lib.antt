@@ -1,1 +1,2 @@
+pub mod Refers
 pub mod References

@@ -1,10 +1,11 @@
--- References, by place in the field s: the name of a register, or a bit part of one.
+-- How references are read, by place in the field s: the name of a register, or a bit part of one, as the rules of Refers have them, by the laws
+-- `whole-referred`, `part-referred` and `refers-read`.
 -- Assumes nothing.
 use Prim.Native.Nat.{ℕ, _+_}
 use mathlib.Core.Bool.{true, false, _&&_}
-use mathlib.Core.List.{List, []}
+use mathlib.Core.List.{List}
 use lib.Dec.{eqb, leb, ltb}
-use lib.ListN.{length, getD}
+use lib.ListN.{length}
 use Rattle.characters.specs.Characters.{runEnd}
 use Rattle.characters.specs.declared.Class.the-variants.{Word}
 use Rattle.constants.specs.Constants.{decimalAt}
@@ -12,12 +13,13 @@ use Rattle.constants.specs.declared.Number.{Number}
 use Rattle.constants.specs.declared.Number.the-variants.{Plain, Unread}
 use Rattle.characters.specs.Named.{Named, find}
 use Rattle.tokens.specs.Tokens.{angleOpen, angleClose, colon, skip, next, slice}
+pub use Rattle.bit_parts.specs.Refers.{widthIn}
 use Rattle.bit_parts.specs.declared.Span.{Span}
 use Rattle.bit_parts.specs.declared.Span.the-variants.{Bits, Bad}
 use Rattle.bit_parts.specs.declared.Reference.{Reference}
 use Rattle.bit_parts.specs.declared.Reference.the-variants.{Whole, Part, Unknown}
 
--- "name<a> or name<a:b>": the bit numbers from the place after `<` on
+-- the bit numbers from the place after `<` on
 unfoldable pub secondBit : List ℕ → ℕ → Number → Span
 secondBit s a (Plain b p) = elim (eqb (next s p) angleClose) [ true ↦ Bits a b (skip s p + 1) | false ↦ Bad ]
 secondBit s a Unread = Bad
@@ -33,20 +35,16 @@ firstBit s Unread = Bad
 unfoldable pub spanAt : List ℕ → ℕ → Span
 spanAt s at = firstBit s (decimalAt s (skip s at))
 
--- "(a at most b, each decimal, below the width ..)"
+-- those that are in order and below the width
 unfoldable pub partOf : ℕ → ℕ → Span → Reference
 partOf r w (Bits a b p) = elim (leb a b && ltb b w) [ true ↦ Part r w a b p | false ↦ Unknown ]
 partOf r w Bad = Unknown
-
--- the width of register r
-abbrev pub widthIn : List Named → ℕ → ℕ
-widthIn rs r = getD rs r (record { name = []; number = 0 }) .number
 
 -- register r of w bits, whose name ends at a place, or a bit part of it
 unfoldable pub registerAt : List ℕ → ℕ → ℕ → ℕ → Reference
 registerAt s r w end = elim (eqb (next s end) angleOpen) [ true ↦ partOf r w (spanAt s (skip s end + 1)) | false ↦ Whole r w end ]
 
--- the name at a place, "unknown names included"
+-- the name at a place
 unfoldable pub referenceAt : List Named → List ℕ → ℕ → Reference
 referenceAt rs s at =
     elim (ltb (find (slice s at (runEnd Word s at)) rs) (length rs)) [

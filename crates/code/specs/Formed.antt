@@ -11,9 +11,8 @@ use Rattle.word.specs.Word.{widest}
 use Rattle.characters.specs.Named.{Named}
 use Rattle.operators.specs.declared.Operator.{Operator}
 use Rattle.operators.specs.Operators.{rowOf, entryIn, strongest, rotations}
-use Rattle.bit_parts.specs.References.{widthIn}
-use Rattle.code.specs.Tree.{Expr, register, bitPart, constant, memory, complemented, rotated, binary, width, pieces, largestCount, mostPieces, Destination, toRegister, toPart, toMemory}
-use Rattle.code.specs.Readings.{Reading, read, outside, DestinationReading, leads, astray}
+use Rattle.bit_parts.specs.Refers.{widthIn}
+use Rattle.code.specs.Tree.{Expr, register, bitPart, constant, memory, complemented, rotated, binary, width, pieces, largestCount, mostPieces, Destination, toRegister, toPart, toMemory, Reading, read, outside, DestinationReading, leads, astray}
 
 -- "width (1 to 16 ..)", of every register
 abbrev pub Registers : List Named → Type 0

@@ -1,5 +1,4 @@
--- What the grammar reads: a tree and the place after it, or nothing within the rules; and what each form of an operand or an operator makes of
--- what was read.
+-- What the reader's definition makes of what was read, form by form of operands and operators.
 -- Assumes nothing.
 use Prim.Native.Nat.{ℕ, _+_}
 use mathlib.Core.Bool.{true, false}
@@ -14,17 +13,8 @@ use Rattle.bit_parts.specs.declared.Reference.{Reference}
 use Rattle.bit_parts.specs.declared.Reference.the-variants.{Whole, Part, Unknown}
 use Rattle.operators.specs.Operators.{entryIn}
 use Rattle.tokens.specs.Tokens.{squareClose, skip, next}
-use Rattle.code.specs.Tree.{Expr, register, bitPart, constant, memory, complemented, rotated, binary, width, largestCount, Destination}
-
--- a tree and the place after it, or nothing within the rules
-pub data Reading : Type 0 where
-  read : Expr → ℕ → Reading
-  outside : Reading
-
--- a destination, or nothing within the rules
-pub data DestinationReading : Type 0 where
-  leads : Destination → DestinationReading
-  astray : DestinationReading
+use Rattle.code.specs.Tree.{Expr, register, bitPart, constant, memory, complemented, rotated, binary, width, largestCount}
+pub use Rattle.code.specs.Tree.{Reading, read, outside, DestinationReading, leads, astray}
 
 -- "No width may pass 16"
 unfoldable pub limited : Expr → ℕ → Reading

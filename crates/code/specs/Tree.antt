@@ -1,4 +1,4 @@
--- The syntax tree of an expression, its width and its pieces, and the destinations. A register's number and width stand in the tree; whole registers are kept
+-- The syntax tree of an expression, its width and its pieces, the destinations, and what is read of a field. A register's number and width stand in the tree; whole registers are kept
 -- apart from bit parts.
 -- Assumes nothing.
 use Prim.Native.Nat.{ℕ, _+_, _-_}
@@ -55,3 +55,13 @@ pub data Destination : Type 0 where
   toRegister : ℕ → ℕ → Destination
   toPart : ℕ → ℕ → ℕ → ℕ → Destination
   toMemory : Expr → Destination
+
+-- what is read of a field: a tree and the place after it, or nothing within the rules
+pub data Reading : Type 0 where
+  read : Expr → ℕ → Reading
+  outside : Reading
+
+-- a destination, or nothing within the rules
+pub data DestinationReading : Type 0 where
+  leads : Destination → DestinationReading
+  astray : DestinationReading

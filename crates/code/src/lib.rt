@@ -1,5 +1,7 @@
 // The table of words that stand for an expression, and how far reading has come.
+pub mod compounds;
 pub mod kinds;
+pub mod leaves;
 
 ghost use mathlib.Core.Path.{_≡_};
 ghost use mathlib.Core.List.{[], _∷_};
@@ -27,7 +29,7 @@ pub enum Part {
 }
 
 // Puts a word into the table: its kind and three numbers.
-pub fn emit(code: &mut [u16; CODE_PLACES], words: usize, kind: u16, a: u16, b: u16, c: u16)
+fn emit(code: &mut [u16; CODE_PLACES], words: usize, kind: u16, a: u16, b: u16, c: u16)
     requires { ⌜ words < capacity ⌝ }
     ensures { λ _. ⌜ now (code .exit) ≡ sets (now (code .entry)) (4 * words) (kind ∷ a ∷ b ∷ c ∷ []) ⌝ }
 {
@@ -39,7 +41,7 @@ pub fn emit(code: &mut [u16; CODE_PLACES], words: usize, kind: u16, a: u16, b: u
 }
 
 // A cursor at a place, with one word and one piece more.
-pub fn one_more(c: Cursor, place: usize) -> Cursor
+fn one_more(c: Cursor, place: usize) -> Cursor
     requires { ⌜ c .words ≤ capacity ⌝ ∗ ⌜ c .pieces ≤ capacity ⌝ }
     ensures { λ r. ⌜ r ≡ record { place = place; words = c .words + 1; pieces = c .pieces + 1 } ⌝ }
 {

@@ -14,7 +14,7 @@ use Rattle.names.specs.Names.{isName}
 use Rattle.constants.specs.Constants.{decimalAt}
 use Rattle.constants.specs.declared.Number.{Number}
 use Rattle.constants.specs.declared.Number.the-variants.{Plain, Unread}
-use Rattle.operator_names.specs.OperatorNames.{isReserved}
+use Rattle.operators.specs.OperatorNames.{isReserved}
 use Rattle.declaration.specs.declared.faults.Fault.{Fault}
 use Rattle.declaration.specs.declared.faults.Fault.the-variants.{Line, Register, Label, Limit}
 use Rattle.declaration.specs.Rows.{Row}

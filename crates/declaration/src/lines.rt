@@ -90,7 +90,7 @@ fn is_width(s: &[u8], n: Number) -> bool
 fn is_new_name(text: &[u8], d: Dictionary, name: &[u8]) -> bool
     ensures { λ r. ⌜ r ≡ isNewName (entries (now (text .entry)) d) (now (name .entry)) ⌝ }
 {
-    names::is_name(name) & !operator_names::is_reserved(name) & !is_among(text, d, name)
+    names::is_name(name) & !operators::names::is_reserved(name) & !is_among(text, d, name)
 }
 
 // One register more, whose name stands at a start in the text.

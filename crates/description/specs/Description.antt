@@ -10,7 +10,7 @@ use Rattle.fields.specs.Fields as text
 use Rattle.characters.specs.Ascii.{ascii, lineFeed}
 use Rattle.fields.specs.Fields.{until, before, after, lines}
 use Rattle.characters.specs.Named.{Named, find}
-use Rattle.bit_parts.specs.References.{widthIn}
+use Rattle.bit_parts.specs.Refers.{widthIn}
 use Rattle.declaration.specs.declared.faults.Fault.{Fault}
 use Rattle.declaration.specs.declared.faults.Fault.the-variants.{Size, Header, Line, Label, Run}
 use Rattle.declaration.specs.Rows.{Description}

@@ -20,6 +20,7 @@ use Rattle.characters.proofs.Strings.{equal}
 use Rattle.operators.specs.Operators.{weakest}
 use Rattle.tokens.specs.Tokens.{squareOpen, squareClose, memoryToken, skip, next, slice}
 use Rattle.bit_parts.specs.References.{referenceAt}
+use Rattle.bit_parts.proofs.Refers.{whole-referred, part-referred, refers-read}
 use Rattle.bit_parts.specs.declared.Reference.{Reference}
 use Rattle.bit_parts.specs.declared.Reference.the-variants.{Whole, Part, Unknown}
 use Rattle.code.specs.Tree.{Expr, pieces, mostPieces, Destination}
@@ -123,9 +124,9 @@ module _ (rs : List Named) (s : List ℕ) where
   name-said : trimmed s ≡ true → (word s 0 ≡ memoryToken → ⊥) → (x : Reference) → referenceAt rs s 0 ≡ x → Leads (ofName s x)
   unfolding ofName
   name-said e n (Whole r w p) h =
-      by-case Leads (eqb p (length s)) (λ t. names-register e n (h ∙ ap (λ (q : ℕ). Whole r w q) (eqb-true p (length s) t))) (λ t. tt)
+      by-case Leads (eqb p (length s)) (λ t. names-register e n (whole-referred rs s 0 r w (length s) (h ∙ ap (λ (q : ℕ). Whole r w q) (eqb-true p (length s) t)))) (λ t. tt)
   name-said e n (Part r w a b p) h =
-      by-case Leads (eqb p (length s)) (λ t. names-part e n (h ∙ ap (λ (q : ℕ). Part r w a b q) (eqb-true p (length s) t))) (λ t. tt)
+      by-case Leads (eqb p (length s)) (λ t. names-part e n (part-referred rs s 0 r w a b (length s) (h ∙ ap (λ (q : ℕ). Part r w a b q) (eqb-true p (length s) t)))) (λ t. tt)
   name-said e n Unknown h = tt
 
   abbrev inner : ℕ
@@ -186,8 +187,8 @@ module _ (rs : List Named) (s : List ℕ) where
   destination-said d e = subst Leads e all-leads
 
   pub destination-read : (d : Destination) → IsDestination rs s d → destination rs s ≡ leads d
-  destination-read d (names-register {r = r} {w = w} e n h) = by-name e n ∙ ap (ofName s) h ∙ to-register s r w (length s) refl
-  destination-read d (names-part {r = r} {w = w} {a = a} {b = b} e n h) = by-name e n ∙ ap (ofName s) h ∙ to-part s r w (length s) a b refl
+  destination-read d (names-register {r = r} {w = w} e n h) = by-name e n ∙ ap (ofName s) (refers-read rs s 0 h) ∙ to-register s r w (length s) refl
+  destination-read d (names-part {r = r} {w = w} {a = a} {b = b} e n h) = by-name e n ∙ ap (ofName s) (refers-read rs s 0 h) ∙ to-part s r w (length s) a b refl
   destination-read d (names-word {q = q} {t = t} e m o h c l f) =
       by-memory e m
       ∙ ap (memoryAt rs s) (sym (end-is e))
@@ -216,8 +217,8 @@ module _ (rs : List Named) (s : List ℕ) where
 
   -- a destination that begins with a letter, a digit or a dot has whole tokens only
   pub destination-tokens : (d : Destination) → isWord (getD s 0 0) ≡ true → IsDestination rs s d → Reaches s 0 (length s)
-  destination-tokens d i (names-register e n h) = subst (ReferenceTo s 0) (ap (referenceAt rs s) (at-start e) ∙ h) (reference-to s 0 rs 0 nothing (begins e i))
-  destination-tokens d i (names-part e n h) = subst (ReferenceTo s 0) (ap (referenceAt rs s) (at-start e) ∙ h) (reference-to s 0 rs 0 nothing (begins e i))
+  destination-tokens d i (names-register e n h) = subst (ReferenceTo s 0) (ap (referenceAt rs s) (at-start e) ∙ refers-read rs s 0 h) (reference-to s 0 rs 0 nothing (begins e i))
+  destination-tokens d i (names-part e n h) = subst (ReferenceTo s 0) (ap (referenceAt rs s) (at-start e) ∙ refers-read rs s 0 h) (reference-to s 0 rs 0 nothing (begins e i))
   destination-tokens d i (names-word {q = q} e m o h c l f) =
       subst (Reaches s 0) l
       (shut-to s 0 q (onward-to s (square-to s 0 (wordEnd s 0) (word-to s 0 0 nothing (begins e i)) o) (says-reaches rs s h (omega arith))) c)

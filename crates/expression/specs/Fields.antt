@@ -11,7 +11,7 @@ use Rattle.characters.specs.Ascii.{byteOf}
 use Rattle.characters.specs.Named.{Named}
 use Rattle.operators.specs.Operators.{weakest}
 use Rattle.tokens.specs.Tokens.{squareOpen, squareClose, memoryToken, skip, next}
-use Rattle.bit_parts.specs.References.{referenceAt}
+use Rattle.bit_parts.specs.Refers.{Refers}
 use Rattle.bit_parts.specs.declared.Reference.the-variants.{Whole, Part}
 use Rattle.code.specs.Tree.{Expr, pieces, mostPieces, Destination, toRegister, toPart, toMemory}
 use Rattle.grammar.specs.Says.{Says, word, wordEnd}
@@ -28,8 +28,8 @@ pub record IsExpression (rs : List Named) (s : List ℕ) (t : Expr) : Type 0 whe
 
 -- "A destination is a name, a bit part `name<a>` or `name<a:b>` .., or `M[expression]`"
 pub data IsDestination (rs : List Named) (s : List ℕ) : Destination → Type 0 where
-  names-register : {r w : ℕ} → trimmed s ≡ true → (word s 0 ≡ memoryToken → ⊥) → referenceAt rs s 0 ≡ Whole r w (length s) → IsDestination rs s (toRegister r w)
-  names-part : {r w a b : ℕ} → trimmed s ≡ true → (word s 0 ≡ memoryToken → ⊥) → referenceAt rs s 0 ≡ Part r w a b (length s)
+  names-register : {r w : ℕ} → trimmed s ≡ true → (word s 0 ≡ memoryToken → ⊥) → Refers rs s 0 (Whole r w (length s)) → IsDestination rs s (toRegister r w)
+  names-part : {r w a b : ℕ} → trimmed s ≡ true → (word s 0 ≡ memoryToken → ⊥) → Refers rs s 0 (Part r w a b (length s))
       → IsDestination rs s (toPart r w a b)
   -- "a destination's own bracket isn't counted"; "a memory destination's address being one of its own"
   names-word : {q : ℕ} {t : Expr} → trimmed s ≡ true → word s 0 ≡ memoryToken → next s (wordEnd s 0) ≡ squareOpen

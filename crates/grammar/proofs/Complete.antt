@@ -21,6 +21,7 @@ use Rattle.operators.specs.Operators.{entryIn, weakest, strongest, rotations}
 use Rattle.tokens.specs.Tokens.{roundClose, squareClose, notToken, memoryToken, skip, next, operatorAt, operatorEnd}
 use Rattle.bit_parts.specs.References.{referenceAt}
 use Rattle.bit_parts.specs.declared.Reference.the-variants.{Whole, Part}
+use Rattle.bit_parts.proofs.Refers.{refers-read}
 use Rattle.bit_parts.proofs.Onward.{Past, word-of-letter, letters-past, decimal-past, constant-past, reference-past, operator-inside, operator-past}
 use Rattle.code.specs.Tree.{Expr, register, bitPart, constant, memory, complemented, rotated, binary, width, largestCount}
 use Rattle.code.specs.Readings.{Reading, read, outside, limited, ofReference, ofConstant, notOf, closed, inside, rotationOf, joined}
@@ -105,9 +106,9 @@ module _ (rs : List Named) (s : List ℕ) where
   said-past (fetches {at = at} {q = q} w e l h c) o =
       omega (arith, onward class.Space s at, letters-past s (skip s at) (wordEnd s at) (memory-letter s at w) refl, onward class.Space s (wordEnd s at), onward class.Space s q, said-past h (omega arith), present s (skip s q) squareClose c (omega arith))
   said-past (is-register {at = at} n g w) o =
-      omega (arith, onward class.Space s at, reference-past rs s (skip s at) (word-of-letter (next s at) (n .letter)) g)
+      omega (arith, onward class.Space s at, reference-past rs s (skip s at) (word-of-letter (next s at) (n .letter)) (refers-read rs s (skip s at) g))
   said-past (is-part {at = at} n g w) o =
-      omega (arith, onward class.Space s at, reference-past rs s (skip s at) (word-of-letter (next s at) (n .letter)) g)
+      omega (arith, onward class.Space s at, reference-past rs s (skip s at) (word-of-letter (next s at) (n .letter)) (refers-read rs s (skip s at) g))
   said-past (is-constant {at = at} g w) o = omega (arith, onward class.Space s at, constant-past s (skip s at) g)
 
   -- no strength is above Not's
@@ -245,8 +246,8 @@ module _ (rs : List Named) (s : List ℕ) where
       ∙ pred (λ (n : ℕ). enclosed n rs s d squareClose (skip s (wordEnd s at) + 1) ≡ read (memory t) (skip s q + 1)) (calls s at 0 - 2)
       (λ n j. enclosed-in rs s d (skip s (wordEnd s at) + 1) squareClose b n ∙ ap (closed s squareClose) (ih .exactly (omega (arith, weak)) n (omega arith)) ∙ closed-is s squareClose t q c)
       n (omega arith)) n (omega arith)))
-  all-read (is-register {d = d} {r = r} {w = w} {p = p} n g l) o = named (said-past (is-register {d = d} n g l) o) n (ap ofReference g ∙ whole-is s r w p l)
-  all-read (is-part {d = d} {r = r} {w = w} {a = a} {b = b} {p = p} n g l) o = named (said-past (is-part {d = d} n g l) o) n (ap ofReference g ∙ part-is s r w a b p l)
+  all-read (is-register {d = d} {at = at} {r = r} {w = w} {p = p} n g l) o = named (said-past (is-register {d = d} n g l) o) n (ap ofReference (refers-read rs s (skip s at) g) ∙ whole-is s r w p l)
+  all-read (is-part {d = d} {at = at} {r = r} {w = w} {a = a} {b = b} {p = p} n g l) o = named (said-past (is-part {d = d} n g l) o) n (ap ofReference (refers-read rs s (skip s at) g) ∙ part-is s r w a b p l)
   all-read (is-constant {d = d} {at = at} {v = v} {w = w} {p = p} g l) o =
       let h = said-past (is-constant {d = d} g l) o in
       let x = constant-first s (skip s at) g in

@@ -22,7 +22,7 @@ use Rattle.constants.specs.declared.Number.{Number}
 use Rattle.constants.specs.declared.Constant.{Constant}
 use Rattle.constants.specs.declared.Constant.the-variants.{Found, Missing}
 use Rattle.operators.specs.Operators.{entryIn}
-use Rattle.operator_names.specs.OperatorNames.{operatorRow, findIn}
+use Rattle.operators.specs.OperatorNames.{operatorRow, findIn}
 use Rattle.tokens.specs.Tokens.{roundOpen, roundClose, squareClose, notToken, memoryToken, skip, next, tokenEnd, operatorAt}
 use Rattle.tokens.proofs.Tokens.{other-end}
 use Rattle.grammar.specs.Says.{wordEnd, word, strength}

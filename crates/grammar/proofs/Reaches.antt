@@ -27,6 +27,7 @@ use Rattle.bit_parts.specs.declared.Span.{Span}
 use Rattle.bit_parts.specs.declared.Span.the-variants.{Bits, Bad}
 use Rattle.bit_parts.specs.declared.Reference.{Reference}
 use Rattle.bit_parts.specs.declared.Reference.the-variants.{Whole, Part, Unknown}
+use Rattle.bit_parts.proofs.Refers.{refers-read}
 use Rattle.bit_parts.proofs.Onward.{word-of-digit, word-of-letter, word-past, operator-inside}
 use Rattle.code.specs.Tree.{Expr}
 use Rattle.grammar.specs.Says.{wordEnd, Says, stronger, operates, rotates, complements, encloses, fetches, is-register, is-part, is-constant}
@@ -184,6 +185,6 @@ module _ (rs : List Named) (s : List ℕ) where
   says-reaches (fetches {at = at} {q = q} w e l h c) o =
       let m = word-to s at at nothing (word-of-letter (next s at) (memory-letter s at w)) in
       shut-to s at q (onward-to s (square-to s at (wordEnd s at) m e) (says-reaches h (omega arith))) c
-  says-reaches (is-register {at = at} n g w) o = subst (ReferenceTo s at) g (reference-to s at rs at nothing (word-of-letter (next s at) (n .letter)))
-  says-reaches (is-part {at = at} n g w) o = subst (ReferenceTo s at) g (reference-to s at rs at nothing (word-of-letter (next s at) (n .letter)))
+  says-reaches (is-register {at = at} n g w) o = subst (ReferenceTo s at) (refers-read rs s (skip s at) g) (reference-to s at rs at nothing (word-of-letter (next s at) (n .letter)))
+  says-reaches (is-part {at = at} n g w) o = subst (ReferenceTo s at) (refers-read rs s (skip s at) g) (reference-to s at rs at nothing (word-of-letter (next s at) (n .letter)))
   says-reaches (is-constant {at = at} g w) o = subst (ConstantTo s at) g (constant-to s at at nothing)

@@ -19,6 +19,7 @@ use Rattle.constants.specs.declared.Constant.the-variants.{Found, Missing}
 use Rattle.operators.specs.Operators.{weakest, strongest, rotations}
 use Rattle.tokens.specs.Tokens.{roundOpen, roundClose, squareOpen, squareClose, notToken, memoryToken, skip, next, operatorAt, operatorEnd}
 use Rattle.bit_parts.specs.References.{referenceAt}
+use Rattle.bit_parts.proofs.Refers.{whole-referred, part-referred}
 use Rattle.bit_parts.specs.declared.Reference.{Reference}
 use Rattle.bit_parts.specs.declared.Reference.the-variants.{Whole, Part, Unknown}
 use Rattle.code.specs.Tree.{Expr, bitPart, binary, width, largestCount}
@@ -51,9 +52,9 @@ module _ (rs : List Named) (s : List ℕ) where
 
   reference-said : (d at : ℕ) (x : Reference) → Name s at → referenceAt rs s (skip s at) ≡ x → Said d strongest at (ofReference x)
   unfolding ofReference limited
-  reference-said d at (Whole r w p) n e = by-case (Said d strongest at) (leb w widest) (λ u. is-register n e (leb-true w widest u)) (λ u. tt)
+  reference-said d at (Whole r w p) n e = by-case (Said d strongest at) (leb w widest) (λ u. is-register n (whole-referred rs s (skip s at) r w p e) (leb-true w widest u)) (λ u. tt)
   reference-said d at (Part r w a b p) n e =
-      by-case (Said d strongest at) (leb (width (bitPart r w a b)) widest) (λ u. is-part n e (leb-true (width (bitPart r w a b)) widest u)) (λ u. tt)
+      by-case (Said d strongest at) (leb (width (bitPart r w a b)) widest) (λ u. is-part n (part-referred rs s (skip s at) r w a b p e) (leb-true (width (bitPart r w a b)) widest u)) (λ u. tt)
   reference-said d at Unknown n e = tt
 
   constant-said : (d at : ℕ) (x : Constant) → constantAt s (skip s at) ≡ x → Said d strongest at (ofConstant x)

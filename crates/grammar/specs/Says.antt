@@ -16,7 +16,7 @@ use Rattle.constants.specs.declared.Constant.the-variants.{Found}
 use Rattle.operators.specs.declared.Operator.{Operator}
 use Rattle.operators.specs.Operators.{entryIn, weakest, strongest, rotations}
 use Rattle.tokens.specs.Tokens.{roundOpen, roundClose, squareOpen, squareClose, notToken, memoryToken, skip, next, slice, operatorAt, operatorEnd}
-use Rattle.bit_parts.specs.References.{referenceAt}
+use Rattle.bit_parts.specs.Refers.{Refers}
 use Rattle.bit_parts.specs.declared.Reference.the-variants.{Whole, Part}
 use Rattle.code.specs.Tree.{Expr, register, bitPart, constant, memory, complemented, rotated, binary, width, largestCount}
 
@@ -62,7 +62,7 @@ pub data Says (rs : List Named) (s : List ℕ) : ℕ → ℕ → ℕ → ℕ →
       → Says rs s d strongest at (skip s q + 1) t
   fetches : {d at q : ℕ} {t : Expr} → word s at ≡ memoryToken → next s (wordEnd s at) ≡ squareOpen → d < deepest
       → Says rs s (d + 1) weakest (skip s (wordEnd s at) + 1) q t → next s q ≡ squareClose → Says rs s d strongest at (skip s q + 1) (memory t)
-  is-register : {d at r w p : ℕ} → Name s at → referenceAt rs s (skip s at) ≡ Whole r w p → w ≤ widest → Says rs s d strongest at p (register r w)
-  is-part : {d at r w a b p : ℕ} → Name s at → referenceAt rs s (skip s at) ≡ Part r w a b p → width (bitPart r w a b) ≤ widest
+  is-register : {d at r w p : ℕ} → Name s at → Refers rs s (skip s at) (Whole r w p) → w ≤ widest → Says rs s d strongest at p (register r w)
+  is-part : {d at r w a b p : ℕ} → Name s at → Refers rs s (skip s at) (Part r w a b p) → width (bitPart r w a b) ≤ widest
       → Says rs s d strongest at p (bitPart r w a b)
   is-constant : {d at v w p : ℕ} → constantAt s (skip s at) ≡ Found v w p → w ≤ widest → Says rs s d strongest at p (constant w v)

@@ -1,4 +1,5 @@
 // The operators and their one table.
+pub mod names;
 ghost use mathlib.Core.Path.{_≡_};
 ghost use Prim.Native.Nat.{_≤_, max};
 ghost use Rattle.word.specs.Word.{widest};
@@ -35,7 +36,7 @@ pub struct Entry {
     pub widths: Widths,
 }
 
-pub const OPERATORS: usize = 10;
+const OPERATORS: usize = 10;
 
 // The rows by which the grammar knows its levels: Not's is the strongest, Slr's the rotations', Or's the weakest.
 pub const NOT: usize = 0;

@@ -9,7 +9,7 @@ use Rattle.constants.specs.Constants.{numberAt, decimalAt, markedAt, shortestFr
 use Rattle.fields.specs.Fields.{lines, field, hasFields}
 use Rattle.characters.specs.Named.{find}
 use Rattle.names.specs.Names.{isName}
-use Rattle.operator_names.specs.OperatorNames.{findIn, operatorRow}
+use Rattle.operators.specs.OperatorNames.{findIn, operatorRow}
 use Rattle.tokens.specs.Tokens.{tokenEnd, operatorAt, operatorEnd}
 use Rattle.bit_parts.specs.References.{secondBit, firstBit, spanAt, partOf, registerAt, referenceAt}
 use Rattle.code.specs.Readings.{limited, ofReference, ofConstant, notOf, closed, rotationOf, joined}

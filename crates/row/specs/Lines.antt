@@ -9,7 +9,7 @@ use lib.ListN.{length}
 use Rattle.fields.specs.Fields as text
 use Rattle.fields.specs.Fields.{field, hasFields}
 use Rattle.names.specs.Names.{isName}
-use Rattle.code.specs.Readings.{Reading, read, outside, DestinationReading, leads, astray}
+use Rattle.code.specs.Tree.{Reading, read, outside, DestinationReading, leads, astray}
 use Rattle.expression.specs.Expression.{expression, destination}
 use Rattle.declaration.specs.declared.faults.Fault.the-variants.{Line, Expression, Label, Limit}
 use Rattle.targets.specs.declared.Target.{Target}

@@ -10,7 +10,7 @@ use Rattle.characters.specs.Ascii.{ascii, byteOf}
 use Rattle.characters.specs.Characters.{isWord, runEnd}
 use Rattle.characters.specs.declared.Class.the-variants.{Space, Word, Binary, Octal}
 use Rattle.constants.specs.Constants.{binaryMark, octalMark}
-use Rattle.operator_names.specs.OperatorNames.{operatorRow}
+use Rattle.operators.specs.OperatorNames.{operatorRow}
 
 -- the signs `(`, `)`, `[`, `]`, `<`, `>` and `:`
 abbrev pub roundOpen : ℕ

@@ -37,7 +37,7 @@ pub fn operator_at(s: &[u8], at: usize) -> usize
 {
     let start = skip_spaces(s, at);
     let end = token_end(s, start);
-    operator_names::operator_row(characters::part(s, start, end - start))
+    operators::names::operator_row(characters::part(s, start, end - start))
 }
 
 // The place after the token that stands next.

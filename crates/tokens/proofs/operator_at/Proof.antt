@@ -2,7 +2,7 @@
 use mathlib.Core.Path.{ap, _∙_}
 use Prim.Native.Nat.{ℕ}
 use Rattle.tokens.specs.Tokens.{slice, tokenEnd, operatorAt}
-use Rattle.operator_names.specs.OperatorNames.{operatorRow}
+use Rattle.operators.specs.OperatorNames.{operatorRow}
 use Rattle.characters.specs.declared.Class.the-variants.{Space}
 use Rattle.characters.proofs.Runs.{within}
 use Rattle.tokens.proofs.Tokens.{token-onward}

@@ -21,8 +21,8 @@ use Rattle.grammar.proofs.+read_enclosed+read_level+read_more+read_nega
 use Rattle.grammar.proofs.read_operand.Reads as read-operand
 use Rattle.grammar.proofs.read_operation.Reads as read-operation
 use Rattle.grammar.proofs.+read_enclosed+read_level+read_more+read_negated+read_operand+read_operation+read_worded.Lts-read_operation as read-operation-lts
-use Rattle.compounds.proofs.joined_part.Reads as joined-part-reads
-use Rattle.compounds.proofs.rotated_part.Reads as rotated-part-reads
+use Rattle.code.proofs.compounds.joined_part.Reads as joined-part-reads
+use Rattle.code.proofs.compounds.rotated_part.Reads as rotated-part-reads
 use Rattle.operators.proofs.entry_in.Reads as entry-in-reads
 use Rattle.tokens.proofs.operator_at.Reads as operator-at-reads
 use Rattle.tokens.proofs.operator_end.Reads as operator-end-reads

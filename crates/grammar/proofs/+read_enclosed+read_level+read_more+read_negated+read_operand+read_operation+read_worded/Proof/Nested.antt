@@ -17,8 +17,8 @@ use Rattle.grammar.proofs.+read_enclosed+read_level+read_more+read_nega
 use Rattle.grammar.proofs.read_level.Reads as read-level
 use Rattle.grammar.proofs.read_negated.Reads as read-negated
 use Rattle.grammar.proofs.+read_enclosed+read_level+read_more+read_negated+read_operand+read_operation+read_worded.Lts-read_negated as read-negated-lts
-use Rattle.compounds.proofs.closed_part.Reads as closed-part-reads
-use Rattle.compounds.proofs.complemented_part.Reads as complemented-part-reads
+use Rattle.code.proofs.compounds.closed_part.Reads as closed-part-reads
+use Rattle.code.proofs.compounds.complemented_part.Reads as complemented-part-reads
 use Rattle.operators.proofs.entry_in.Reads as entry-in-reads
 use Rattle.grammar.proofs.+read_enclosed+read_level+read_more+read_negated+read_operand+read_operation+read_worded.Proof.Measures.{read-enclosed-at, read-level-below, read-negated-at}
 

@@ -24,8 +24,8 @@ use Rattle.grammar.proofs.read_operand.Reads as read-operand
 use Rattle.grammar.proofs.+read_enclosed+read_level+read_more+read_negated+read_operand+read_operation+read_worded.Lts-read_operand as read-operand-lts
 use Rattle.grammar.proofs.read_worded.Reads as read-worded
 use Rattle.grammar.proofs.+read_enclosed+read_level+read_more+read_negated+read_operand+read_operation+read_worded.Lts-read_worded as read-worded-lts
-use Rattle.leaves.proofs.constant_part.Reads as constant-part-reads
-use Rattle.leaves.proofs.reference_part.Reads as reference-part-reads
+use Rattle.code.proofs.leaves.constant_part.Reads as constant-part-reads
+use Rattle.code.proofs.leaves.reference_part.Reads as reference-part-reads
 use Rattle.tokens.proofs.skip_spaces.Reads as skip-spaces-reads
 use Rattle.characters.proofs.byte.Reads as byte-reads
 use Rattle.characters.proofs.is_letter.Reads as is-letter-reads

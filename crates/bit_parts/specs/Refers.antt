@@ -1,0 +1,34 @@
+-- Names of registers and bit parts, by place in the field s, over the registers rs: "a name, a bit part `name<a>` or `name<a:b>`".
+-- Assumes nothing.
+use mathlib.Core.Path.{_≡_}
+use mathlib.Core.List.{List, []}
+use Prim.Native.Nat.{ℕ, _+_, _≤_, _<_}
+use lib.ListN.{length, getD}
+use Rattle.characters.specs.Characters.{runEnd}
+use Rattle.characters.specs.Named.{Named, find}
+use Rattle.characters.specs.declared.Class.the-variants.{Word}
+use Rattle.constants.specs.Constants.{decimalAt}
+use Rattle.constants.specs.declared.Number.the-variants.{Plain}
+use Rattle.tokens.specs.Tokens.{angleOpen, angleClose, colon, skip, next, slice}
+use Rattle.bit_parts.specs.declared.Reference.{Reference}
+use Rattle.bit_parts.specs.declared.Reference.the-variants.{Whole, Part}
+
+-- the register that the word at a place names, and its width
+abbrev pub registerOf : List Named → List ℕ → ℕ → ℕ
+registerOf rs s at = find (slice s at (runEnd Word s at)) rs
+
+abbrev pub widthIn : List Named → ℕ → ℕ
+widthIn rs r = getD rs r (record { name = []; number = 0 }) .number
+
+-- the bit numbers behind a name: `<a>` or `<a:b>`, "each decimal, .. without leading zeros", from the place at to the place p
+pub data Spans (s : List ℕ) (at : ℕ) : ℕ → ℕ → ℕ → Type 0 where
+  one-bit : {a q : ℕ} → next s at ≡ angleOpen → decimalAt s (skip s (skip s at + 1)) ≡ Plain a q → next s q ≡ angleClose → Spans s at a a (skip s q + 1)
+  two-bits : {a b q p : ℕ} → next s at ≡ angleOpen → decimalAt s (skip s (skip s at + 1)) ≡ Plain a q → next s q ≡ colon
+      → decimalAt s (skip s (skip s q + 1)) ≡ Plain b p → next s p ≡ angleClose → Spans s at a b (skip s p + 1)
+
+-- what the name at a place refers to: a register of the list, or bits of one, "a at most b, each .. below the width"
+pub data Refers (rs : List Named) (s : List ℕ) (at : ℕ) : Reference → Type 0 where
+  to-register : registerOf rs s at < length rs → (next s (runEnd Word s at) ≡ angleOpen → ⊥)
+      → Refers rs s at (Whole (registerOf rs s at) (widthIn rs (registerOf rs s at)) (runEnd Word s at))
+  to-bits : {a b p : ℕ} → registerOf rs s at < length rs → Spans s (runEnd Word s at) a b p → a ≤ b → b < widthIn rs (registerOf rs s at)
+      → Refers rs s at (Part (registerOf rs s at) (widthIn rs (registerOf rs s at)) a b p)

@@ -13,12 +13,13 @@ ghost use Prim.Native.Nat.{_≤_};
 ghost use lib.Dec.{ltb};
 ghost use lib.ListN.{length};
 ghost use Rattle.characters.specs.Ascii.{lineFeed};
-ghost use Rattle.fields.specs.Fields.{until, before, after, lines, firstLine};
+ghost use Rattle.fields.specs.Fields.{until, before, after, lines};
+ghost use Rattle.fields.specs.Rests.{firstLine, Rest};
 ghost use Rattle.text_limits.specs.Limits.{mostBytes};
 ghost use Rattle.declaration.specs.Stored.{Within};
 ghost use Rattle.targets.specs.Targets.{lacksLabel};
 ghost use Rattle.row.specs.Stored.{Takes, firstGone};
-ghost use Rattle.line.specs.Line.{isFit, readLine, Rest};
+ghost use Rattle.line.specs.Line.{isFit, readLine};
 
 // "200 bytes .. pass."
 const LINE_BYTES: usize = 200;

@@ -8,6 +8,7 @@ use declaration::lines::Progress;
 use declaration::lines::Step;
 use row::rows;
 use row_table::TABLE_CELLS;
+use text_limits::LONGEST_LINE;
 ghost use mathlib.Core.Path.{_≡_};
 ghost use Prim.Native.Nat.{_≤_};
 ghost use lib.Dec.{ltb};
@@ -21,16 +22,13 @@ ghost use Rattle.targets.specs.Targets.{lacksLabel};
 ghost use Rattle.row.specs.Stored.{Takes, firstGone};
 ghost use Rattle.line.specs.Line.{isFit, readLine};
 
-// "200 bytes .. pass."
-const LINE_BYTES: usize = 200;
-
 // Whether the first line of a rest ends with LF, is short enough, and holds only bytes that a line may hold.
 fn is_fit(line: &[u8], rest: &[u8]) -> bool
     requires { ⌜ now line ≡ before lineFeed (now rest) ⌝ }
     ensures { λ r. ⌜ r ≡ isFit (record { bytes = now (line .entry); ended = ltb (until lineFeed (now (rest .entry))) (length (now (rest .entry))) }) ⌝ }
 {
     let end = characters::run_end(line, 0, Class::Printable);
-    (line.len() < rest.len()) & (line.len() <= LINE_BYTES) & (end == line.len())
+    (line.len() < rest.len()) & (line.len() <= LONGEST_LINE) & (end == line.len())
 }
 
 // Line n, with which the rest of the text begins.

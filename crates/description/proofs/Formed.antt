@@ -38,7 +38,7 @@ use Rattle.text_limits.specs.Limits.{mostBytes, mostRegisters, mostRows, mostLa
 use Rattle.declaration.specs.Lines.{regWord, doWord, goWord, atWord, Progress, Step, refused, next, kept, widthOf, isWidth, isNewName, addRegister, unbegun, regLine, isNewLabel, addLabel, atLine}
 use Rattle.targets.specs.Targets.{isAt, isRow, further, passes, MissingTarget, missingAt, noneMissing, firstMissing}
 use Rattle.row.specs.Lines.{addRow, addDo, doLine, rowsPassed, addGo, goLine}
-use Rattle.line.specs.Line.{isFit, byWord, readLine}
+use Rattle.description.specs.Line.{isFit, byWord, readLine}
 use Rattle.description.specs.Description.{Acceptance, accepted, turnedDown, keptAt, header, nothing, hasRun, finished, readLines, readBelow, readAll, readText}
 use Rattle.description.specs.Formed.{FormedRow, FormedRows, Lands, Lower, Formed, labelsIn, Keeps}
 

@@ -37,7 +37,7 @@ use Rattle.row.specs.Cells as cells
 use Rattle.row_table.specs.RowTable.{rowCells}
 use Rattle.targets.specs.Targets.{MissingTarget, missingAt, noneMissing, firstMissing, lacksLabel}
 use Rattle.row.specs.Stored.{Tables, Comes, Takes, firstGone}
-use Rattle.line.specs.Line.{readLine}
+use Rattle.description.specs.Line.{readLine}
 use Rattle.description.specs.declared.reader.Findings.{Findings}
 use Rattle.description.specs.declared.reader.Verdict.{Verdict}
 use Rattle.description.specs.declared.reader.Verdict.the-variants as verdict

@@ -17,7 +17,7 @@ use Rattle.declaration.specs.Rows.{Description}
 use Rattle.text_limits.specs.Limits.{mostBytes}
 use Rattle.declaration.specs.Lines.{Progress, refused, next}
 use Rattle.targets.specs.Targets.{missingAt, noneMissing, firstMissing}
-use Rattle.line.specs.Line.{readLine}
+use Rattle.description.specs.Line.{readLine}
 
 -- "The answer is the number and line."
 pub data Acceptance : Type 0 where

@@ -1,4 +1,5 @@
 // The whole text: line by line, then what is looked for after all lines.
+use crate::line;
 use characters::LINE_FEED;
 use code::CODE_PLACES;
 use declaration::faults::Fault;

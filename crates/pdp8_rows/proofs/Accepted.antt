@@ -20,7 +20,7 @@ use Rattle.declaration.specs.Lines.{addRegister, regLine, addLabel, atLine}
 use Rattle.targets.specs.Targets.{passes, firstMissing}
 use Rattle.row.specs.Lines.{addRow, addDo, doLine, addGo, goLine}
 use Rattle.description.specs.Description.{accepted, finished, readLines, readBelow, readAll, readText}
-use Rattle.line.specs.Line.{byWord, readLine}
+use Rattle.description.specs.Line.{byWord, readLine}
 use Rattle.pdp8_rows.specs.Text.{shippedText}
 use Rattle.pdp8_rows.specs.Shipped.{mostShippedRows, shipped}
 

@@ -20,7 +20,7 @@ ghost use Rattle.text_limits.specs.Limits.{mostBytes};
 ghost use Rattle.declaration.specs.Stored.{Within};
 ghost use Rattle.targets.specs.Targets.{lacksLabel};
 ghost use Rattle.row.specs.Stored.{Takes, firstGone};
-ghost use Rattle.line.specs.Line.{isFit, readLine};
+ghost use Rattle.description.specs.Line.{isFit, readLine};
 
 // Whether the first line of a rest ends with LF, is short enough, and holds only bytes that a line may hold.
 fn is_fit(line: &[u8], rest: &[u8]) -> bool
@@ -32,7 +32,7 @@ fn is_fit(line: &[u8], rest: &[u8]) -> bool
 }
 
 // Line n, with which the rest of the text begins.
-pub fn read_line(
+pub(crate) fn read_line(
     text: &[u8],
     q: Progress,
     n: usize,

@@ -29,7 +29,7 @@ use Rattle.row.specs.Lines.{doLine, goLine}
 use Rattle.targets.specs.Targets.{passes, isMissing, lacksLabel}
 use Rattle.row.specs.Stored.{Takes, firstGone}
 use Rattle.row.proofs.RowLines.{takes-refused, takes-as}
-use Rattle.line.specs.Line.{isFit, byWord, readLine}
+use Rattle.description.specs.Line.{isFit, byWord, readLine}
 
 -- a line, by its first word
 module _ (p : Progress) (below : List fields.Line) (l : fields.Line) where

@@ -3,13 +3,13 @@
 use Prim.Native.Nat.{ℕ, _+_}
 use mathlib.Core.Bool.{Bool, true, false, _&&_}
 use mathlib.Core.List.{List, [], _∷_}
-use lib.Dec.{eqb, leb, ltb}
+use lib.Dec.{eqb, leb}
 use lib.ListN.{length}
 use Rattle.characters.specs.Characters.{same}
 use Rattle.fields.specs.Fields as text
 use Rattle.characters.specs.Ascii.{ascii}
 use Rattle.fields.specs.Fields.{lines}
-use Rattle.characters.specs.Named.{Named, find}
+use Rattle.characters.specs.Named.{Named, find, among}
 use Rattle.bit_parts.specs.References.{widthIn}
 use Rattle.declaration.specs.declared.faults.Fault.{Fault}
 use Rattle.declaration.specs.declared.faults.Fault.the-variants.{Size, Header, Line, Label, Run}
@@ -24,17 +24,17 @@ pub data Acceptance : Type 0 where
   accepted : Description → Acceptance
   turnedDown : Fault → ℕ → Acceptance
 
-abbrev pub runName : List ℕ
-runName = ascii "RUN"
-
 -- what a text comes to if a rule is kept; if not, it is turned down at line n
 abbrev pub keptAt : ℕ → Bool → Fault → Acceptance → Acceptance
 keptAt n true f x = x
 keptAt n false f x = turnedDown f n
 
 -- "register RUN of width 1"
+abbrev pub runName : List ℕ
+runName = ascii "RUN"
+
 abbrev pub hasRun : List Named → Bool
-hasRun rs = ltb (find runName rs) (length rs) && eqb (widthIn rs (find runName rs)) 1
+hasRun rs = among runName rs && eqb (widthIn rs (find runName rs)) 1
 
 -- "Missing `go` targets are looked for after all lines, lowest line first, then 8" at the "line after the last", which is n; line 2 stands below the header
 unfoldable pub finished : List text.Line → Progress → ℕ → Acceptance

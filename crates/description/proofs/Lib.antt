@@ -1,2 +1,3 @@
+mod FirstWords
 pub mod Texts
 pub mod Formed

@@ -9,10 +9,11 @@ use lib.Dec.{eqb, leb, ltb}
 use lib.ListN.{length, getD, drop, length-drop, drop-of-length-le, replicate}
 use lib.Seq.{sets, drop-drop}
 use borrow.Author.Tests.{ne-eqb, ltb-true, leb-true, leb-false}
-use Rattle.characters.specs.Characters.{same}
+use Rattle.characters.specs.Characters.{run, same}
 use Rattle.fields.specs.Fields as fields
 use Rattle.characters.specs.Ascii.{lineFeed}
-use Rattle.fields.specs.Fields.{until, before, after, lines, firstLine}
+use Rattle.fields.specs.Fields.{until, before, after, lines}
+use Rattle.fields.specs.Rests.{firstLine, Rest}
 use Rattle.characters.specs.Named.{Named, find}
 use Rattle.names.specs.Dictionaries.{entriesFrom, entries, none}
 use Rattle.names.specs.declared.Dictionary.{Dictionary}
@@ -36,11 +37,11 @@ use Rattle.row.specs.Cells as cells
 use Rattle.row_table.specs.RowTable.{rowCells}
 use Rattle.targets.specs.Targets.{MissingTarget, missingAt, noneMissing, firstMissing, lacksLabel}
 use Rattle.row.specs.Stored.{Tables, Comes, Takes, firstGone}
-use Rattle.line.specs.Line.{readLine, Rest}
+use Rattle.description.specs.Line.{readLine}
 use Rattle.description.specs.declared.reader.Findings.{Findings}
 use Rattle.description.specs.declared.reader.Verdict.{Verdict}
 use Rattle.description.specs.declared.reader.Verdict.the-variants as verdict
-use Rattle.description.specs.Description.{Acceptance, accepted, turnedDown, header, runName, nothing, hasRun, finished, readLines, readBelow, readText}
+use Rattle.description.specs.Description.{Acceptance, accepted, turnedDown, keptAt, header, runName, nothing, hasRun, finished, readLines, readBelow, readAll, readText}
 use Rattle.description.specs.Stored.{unread, judged, firstOf, Finishes, refusal, Accepts, Tells, Leaves}
 
 -- what is left of a text
@@ -329,24 +330,38 @@ leaves-rows text (accepted d) r code₀ code₁ table₀ table₁ e l =
 leaves-rows text (turnedDown f n) r code₀ code₁ table₀ table₁ e l = not-both (r .verdict) (ap (λ (z : Findings). z .verdict) (l .empties f n refl .is)) e
 
 -- the header
-module _ (s : List ℕ) where
-  pub too-long : leb (length s) mostBytes ≡ false → readText s ≡ turnedDown Size 0
-  unfolding readText
-  too-long a = rw (a, readText)
+pub too-long : (s : List ℕ) → leb (length s) mostBytes ≡ false → readText s ≡ turnedDown Size 0
+unfolding readText
+too-long s a = rw (a, readText)
 
-  pub no-header : leb (length s) mostBytes ≡ true → same (before lineFeed s) header ≡ false → readText s ≡ turnedDown Header 1
-  unfolding readText
-  no-header a b = rw (a, b, readText)
+-- the first of the lines, which an empty text has not
+first-bad : (s : List ℕ) → same (before lineFeed s) header ≡ false → readAll (lines s) ≡ turnedDown Header 1
+unfolding readAll lines
+first-bad [] e = refl
+first-bad (y ∷ s) e = ap readAll (first-line (y ∷ s) (omega arith)) ∙ ap (λ (b : Bool). keptAt 1 b Header (keptAt 1 (firstLine (y ∷ s) .ended) Line (readBelow (lines (after lineFeed (y ∷ s)))))) e
 
-  pub header-alone : leb (length s) mostBytes ≡ true → same (before lineFeed s) header ≡ true → ltb (until lineFeed s) (length s) ≡ false
-      → readText s ≡ turnedDown Line 1
-  unfolding readText
-  header-alone a b c = rw (a, b, c, readText)
+first-good : (s : List ℕ) → same (before lineFeed s) header ≡ true
+    → readAll (lines s) ≡ keptAt 1 (ltb (until lineFeed s) (length s)) Line (readBelow (lines (after lineFeed s)))
+unfolding readAll same run
+first-good [] e = absurd (mathlib.Core.Bool.false≢true e)
+first-good (y ∷ s) e = ap readAll (first-line (y ∷ s) (omega arith)) ∙ ap (λ (b : Bool). keptAt 1 b Header (keptAt 1 (firstLine (y ∷ s) .ended) Line (readBelow (lines (after lineFeed (y ∷ s)))))) e
 
-  pub after-header : leb (length s) mostBytes ≡ true → same (before lineFeed s) header ≡ true → ltb (until lineFeed s) (length s) ≡ true
-      → readText s ≡ readBelow (lines (after lineFeed s))
+module _ (s : List ℕ) (a : leb (length s) mostBytes ≡ true) where
+  short : readText s ≡ readAll (lines s)
   unfolding readText
-  after-header a b c = rw (a, b, c, readText)
+  short = rw (a, readText)
+
+  pub no-header : same (before lineFeed s) header ≡ false → readText s ≡ turnedDown Header 1
+  no-header b = short ∙ first-bad s b
+
+  with-header : same (before lineFeed s) header ≡ true → readText s ≡ keptAt 1 (ltb (until lineFeed s) (length s)) Line (readBelow (lines (after lineFeed s)))
+  with-header b = short ∙ first-good s b
+
+  pub header-alone : same (before lineFeed s) header ≡ true → ltb (until lineFeed s) (length s) ≡ false → readText s ≡ turnedDown Line 1
+  header-alone b c = with-header b ∙ ap (λ (h : Bool). keptAt 1 h Line (readBelow (lines (after lineFeed s)))) c
+
+  pub after-header : same (before lineFeed s) header ≡ true → ltb (until lineFeed s) (length s) ≡ true → readText s ≡ readBelow (lines (after lineFeed s))
+  after-header b c = with-header b ∙ ap (λ (h : Bool). keptAt 1 h Line (readBelow (lines (after lineFeed s)))) c
 
 -- "register RUN of width 1", as the code finds it
 pub run-found : (text : List ℕ) (d : Dictionary) (i n : ℕ) → i ≡ find runName (entries text d) → n ≡ getD (d .numbers) i 0

@@ -1,5 +1,5 @@
 // The whole text: line by line, then what is looked for after all lines.
-use crate::limits;
+use crate::line;
 use characters::LINE_FEED;
 use code::CODE_PLACES;
 use declaration::faults::Fault;
@@ -7,6 +7,7 @@ use declaration::lines::Progress;
 use declaration::lines::Status;
 use names::Dictionary;
 use row_table::TABLE_CELLS;
+use text_limits::MOST_BYTES;
 ghost use mathlib.Core.Path.{_≡_};
 ghost use Prim.Native.Nat.{_≤_};
 ghost use lib.ListN.{length};
@@ -118,7 +119,7 @@ fn read_text(text: &[u8], code: &mut [u16; CODE_PLACES], table: &mut [u16; TABLE
     ensures { λ r. ⌜ Tells (readText (now (text .entry))) (now (text .entry)) r
         (now (code .entry)) (now (code .exit)) (now (table .entry)) (now (table .exit)) ⌝ }
 {
-    if limits::TEXT_BYTES < text.len() {
+    if MOST_BYTES < text.len() {
         return turned_down(Fault::Size, 0);
     }
     let header = fields::part_before(text, LINE_FEED);

@@ -19,16 +19,16 @@ use Rattle.declaration.specs.Rows.{Description, piecesOf}
 use Rattle.declaration.specs.Lines.{addRegister, regLine, addLabel, atLine}
 use Rattle.targets.specs.Targets.{passes, firstMissing}
 use Rattle.row.specs.Lines.{addRow, addDo, doLine, addGo, goLine}
-use Rattle.description.specs.Description.{accepted, finished, readLines, readBelow, readText}
-use Rattle.line.specs.Line.{readLine}
 use Rattle.pdp8_rows.specs.Text.{shippedText, described, shipped, mostShippedRows}
 use Rattle.pdp8_rows.proofs.Tree.{tree}
+use Rattle.description.specs.Description.{accepted, finished, readLines, readBelow, readAll, readText}
+use Rattle.description.specs.Line.{byWord, readLine}
 
 pub shipped-accepted : readText shippedText ≡ accepted tree
 unfolding run runEnd same numberAt decimalAt markedAt shortestFrom ofDecimal constantAt lines field hasFields isName find findIn operatorRow tokenEnd
     operatorAt operatorEnd secondBit firstBit spanAt partOf registerAt referenceAt limited ofReference ofConstant notOf closed rotationOf joined level whole
-    expression ofName ofAddress memoryAt destination addRegister regLine piecesOf addRow addDo doLine passes addGo goLine addLabel atLine readLine firstMissing
-    finished readLines readBelow readText shippedText
+    expression ofName ofAddress memoryAt destination addRegister regLine piecesOf addRow addDo doLine passes addGo goLine addLabel atLine byWord readLine firstMissing
+    finished readLines readBelow readAll readText shippedText
 shipped-accepted = refl
 
 pub shipped-is : shipped ≡ tree

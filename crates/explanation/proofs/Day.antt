@@ -5,6 +5,7 @@ use mathlib.Core.List.{List, _++_}
 use Prim.Native.Nat.{ℕ}
 use Rattle.machine.specs.Interrupt.{interruptTest}
 use Rattle.machine.specs.State.{start}
+use Rattle.machine.specs.Registers.{machineOf}
 use Rattle.reference.specs.Address.{firstAddress, indexed, effective, afterIndexing}
 use Rattle.reference.specs.Reference.{operation, reference}
 use Rattle.operate.specs.Operate.{changed, rotated, skips, group1, group2, operate}
@@ -29,7 +30,7 @@ use Rattle.targets.specs.Targets.{passes}
 use Rattle.desk_mnemonics.specs.Mnemonics.{names, namesOf, spaced, mnemonic}
 use Rattle.desk_last_step.specs.LastStep.{lastLine, wordLine, changeLines, lastStep}
 use Rattle.run_lines.specs.Rows.{rowTexts, atLine, labelLine, rowLine, rowLines}
-use Rattle.explanation.specs.Explanation.{machineOf, told, explained, explanation}
+use Rattle.explanation.specs.Explanation.{told, explained, explanation}
 
 -- what no line gives is as for the day listing: the state of each memory, and the budget
 pub starts-as-listed : (memory : List ℕ) → start (machineOf (ready .registers)) memory ≡ listing.ready memory

@@ -1,3 +1,5 @@
 pub mod State
+pub mod Registers
+pub mod Table
 pub mod Instruction
 pub mod Interrupt

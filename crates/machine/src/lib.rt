@@ -1,6 +1,7 @@
-// The parts that every instruction shares: the registers, words of memory, and the interrupt test with op 6, which switches it.
+// The parts that every instruction shares: the registers and their table, words of memory, and the interrupt test with op 6, which switches it.
 pub mod interrupt;
 pub mod memory;
+pub mod registers;
 
 // The machine registers, in document 01's order, as a caller hands them over.
 pub struct Machine {

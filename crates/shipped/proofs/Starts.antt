@@ -5,7 +5,7 @@ use mathlib.Core.List.{List, _∷_, _++_}
 use Prim.Native.Nat.{ℕ, zero, suc, _+_, _^_, _≤_, _<_}
 use native.Mathlib.Omega.{arith}
 use lib.Dec.{lit≤}
-use lib.ListN.{length, getD, drop, replicate, take-append-drop}
+use lib.ListN.{length, getD, take, drop, replicate, take-append-drop}
 use lib.Seq.{drop-cons}
 use borrow.Author.Tests.{le-ltb}
 use Rattle.word.specs.Word.{wordBits}
@@ -15,16 +15,17 @@ use Rattle.state.specs.Limits.{budgetLimit, rowPlaces}
 use Rattle.state.specs.declared.Verdict.the-variants.{Fit as Passed}
 use Rattle.state.proofs.Accepted.{sound-state, zeros}
 use Rattle.machine.specs.declared.Machine.{Machine}
-use Rattle.machine.specs.State.{widths, values, start, Good}
+use Rattle.machine.specs.State.{start, Good}
+use Rattle.machine.specs.Registers.{machineRegisters, widths, values}
 use Rattle.emulator.proofs.Starts.{good-checked}
 use Rattle.value.specs.Value as rows
 use Rattle.evaluator.specs.Evaluate.{widthsOf, check}
 use Rattle.pdp8_rows.specs.Shipped.{shipped}
-use Rattle.shipped.specs.Claim.{machinePart, Start}
+use Rattle.shipped.specs.Claim.{Start}
 use Rattle.pdp8_rows.proofs.Held.{Work, Fit, held}
 
 -- "Machine registers, in this order, which begins the shipped description too"
-pub shipped-begins : machinePart (widthsOf shipped) ≡ widths
+pub shipped-begins : take (length machineRegisters) (shipped .registers) ≡ machineRegisters
 shipped-begins = refl
 
 -- n places of a list one by one, then the places that follow

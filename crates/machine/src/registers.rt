@@ -86,8 +86,8 @@ pub fn widths() -> [u64; MACHINE_REGISTERS]
     let mut all = [0u64; MACHINE_REGISTERS];
     let mut k = 0;
     while k < MACHINE_REGISTERS {
-        let register = register_at(k);
-        all[k] = register.width;
+        let entry = register_at(k);
+        all[k] = entry.width;
         k += 1;
     }
     all

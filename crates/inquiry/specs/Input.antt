@@ -21,11 +21,7 @@ pub record Inquiry : Type 0 where
 -- "memory words and registers are 0, PC is 0200, RUN is 1, the budget is 16" where nothing is said
 unfoldable pub ready : Inquiry
 ready =
-    record {
-      registers = values (record { lac = 0; pc = 0o200; run = 1; enable = 0; request = 0; switches = 0 });
-      budget = 16;
-      memory = clear;
-    }
+    record { registers = values (record { lac = 0; pc = 0o200; run = 1; enable = 0; request = 0; switches = 0 }); budget = 16; memory = clear }
 
 -- "Each line, read or written, ends with LF"
 abbrev pub lineEntry : Line → Entry

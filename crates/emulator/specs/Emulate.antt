@@ -10,7 +10,8 @@ use Rattle.state.specs.declared.Verdict.the-variants.{Fit, Unfit}
 use Rattle.machine.specs.declared.Machine.{Machine}
 use Rattle.emulator.specs.declared.Answer.{Answer}
 use Rattle.emulator.specs.declared.Answer.the-variants.{Ran, Refused}
-use Rattle.machine.specs.State.{widths, values, start, registers}
+use Rattle.machine.specs.State.{start, registers}
+use Rattle.machine.specs.Registers.{widths, values}
 use Rattle.pdp8.specs.Run.{Run, run}
 
 -- everything that a caller finds after the call, in document 01's numbers

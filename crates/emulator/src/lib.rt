@@ -4,18 +4,15 @@ use machine::Processor;
 use state::Reason;
 use state::Refusal;
 use state::Verdict;
-use state::WORD_BITS;
 ghost use mathlib.Core.Path.{_≡_};
 ghost use Rattle.word.specs.Choice.{on, pick};
 ghost use Rattle.state.specs.Checks.{checkState};
 ghost use Rattle.state.specs.declared.Reason.the-variants.{Halted, Spent};
-ghost use Rattle.machine.specs.State.{start, values, widths, Good};
+ghost use Rattle.machine.specs.State.{start, Good};
 ghost use Rattle.machine.specs.Processor.{narrowed, Narrow};
+ghost use Rattle.machine.specs.Registers.{values, widths};
 ghost use Rattle.pdp8.specs.Run.{run};
 ghost use Rattle.emulator.specs.Emulate.{report, finished as finishedRun, emulate as emulation};
-
-// LAC is L and a word.
-const LAC_BITS: u64 = 13;
 
 // The emulator's answer: the registers, reason and steps of a run, or why there was none.
 pub enum Answer {
@@ -23,16 +20,13 @@ pub enum Answer {
     Refused(Refusal),
 }
 
-// Refusals 11 to 14, of the six registers by their widths.
+// Refusals 11 to 14, of the registers by their table's widths.
 fn checked(memory: &[u16], m: Machine, budget: u64) -> Verdict
     ensures { λ r. ⌜ r ≡ checkState widths (values m) (now (memory .entry)) budget ⌝ }
 {
-    state::check_state(
-        memory,
-        &[LAC_BITS, WORD_BITS, 1, 1, 1, WORD_BITS],
-        &[m.lac, m.pc, m.run, m.enable, m.request, m.switches],
-        budget,
-    )
+    let widths = machine::registers::widths();
+    let values = machine::registers::values_of(m);
+    state::check_state(memory, &widths, &values, budget)
 }
 
 // A caller's registers, as the emulator works with them.

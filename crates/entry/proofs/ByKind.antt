@@ -9,7 +9,7 @@ use lib.ListN.{length, getD}
 use borrow.Author.Tests.{ltb-true, leb-true}
 use Rattle.word.specs.Word.{fits}
 use Rattle.state.specs.Limits.{budgetLimit}
-use Rattle.machine.specs.State.{widths}
+use Rattle.machine.specs.Registers.{machineRegisters, widths, digitsOf}
 use Rattle.characters.specs.Ascii.{ascii}
 use Rattle.characters.specs.Characters.{same}
 use Rattle.constants.specs.Constants.{numberAt}
@@ -18,7 +18,7 @@ use Rattle.characters.specs.Named.{find}
 use Rattle.characters.specs.declared.Class.the-variants.{Octal, Decimal}
 use Rattle.laws.proofs.Tests.{by-case}
 use Rattle.laws.proofs.Joined.{and-left, and-right}
-use Rattle.entry.specs.Lines.{machineRegisters, digitsOf, isDigits, budgetDigits, wordEntry, registerEntry, budgetEntry, said, entry}
+use Rattle.entry.specs.Lines.{isDigits, budgetDigits, wordEntry, registerEntry, budgetEntry, said, entry}
 use Rattle.entry.specs.declared.Entry.{Entry}
 use Rattle.entry.specs.declared.Entry.the-variants.{Word, Register, Budget, Unfit}
 

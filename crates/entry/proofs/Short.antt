@@ -8,8 +8,8 @@ use native.Mathlib.Omega.{arith}
 use lib.Dec.{eqb, leb, ltb}
 use lib.ListN.{length, getD, length-drop}
 use borrow.Author.Tests.{ltb-true, leb-true, eqb-true}
-use Rattle.machine.specs.State.{widths}
-use Rattle.machine.proofs.Registers.{width-le}
+use Rattle.machine.specs.Registers.{machineRegisters, widths, digitsOf}
+use Rattle.machine.proofs.Places.{width-le}
 use Rattle.characters.specs.Ascii.{ascii, tab}
 use Rattle.characters.specs.Characters.{same}
 use Rattle.fields.specs.Fields.{until, after, field, hasFields}
@@ -19,7 +19,7 @@ use Rattle.fields.proofs.Lines.{before-length}
 use Rattle.characters.proofs.Strings.{equal}
 use Rattle.laws.proofs.Joined.{and-left, and-right}
 use Rattle.laws.proofs.Tests.{by-test}
-use Rattle.entry.specs.Lines.{machineRegisters, digitsOf, entry, isUnfit, lineBytes}
+use Rattle.entry.specs.Lines.{entry, isUnfit, lineBytes}
 use Rattle.entry.specs.declared.Entry.{Entry}
 use Rattle.entry.specs.declared.Entry.the-variants.{Word, Register, Budget, Unfit}
 use Rattle.entry.proofs.Digits.{digits-size}

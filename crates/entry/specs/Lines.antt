@@ -1,38 +1,23 @@
 -- What a line of an inquiry says, its LF aside: a line of an image as for the day listing, or one of the "optional lines for machine
 -- registers (name, TAB, octal) and `budget`, TAB, decimal".
 -- Assumes nothing.
-use mathlib.Core.List.{List, [], _∷_}
+use mathlib.Core.List.{List}
 use mathlib.Core.Bool.{Bool, true, false, _&&_}
-use Prim.Native.Nat.{ℕ, _+_, _/_}
+use Prim.Native.Nat.{ℕ}
 use lib.ListN.{length, getD}
 use lib.Dec.{eqb, leb, ltb}
-use Rattle.word.specs.Word.{wordBits, fits}
+use Rattle.word.specs.Word.{fits}
 use Rattle.state.specs.Limits.{budgetLimit}
-use Rattle.machine.specs.State.{lacBits, widths}
+use Rattle.machine.specs.Registers.{machineRegisters, widths, digitsOf}
 use Rattle.characters.specs.Ascii.{ascii}
 use Rattle.characters.specs.Characters.{runEnd, same}
 use Rattle.constants.specs.Constants.{numberAt}
 use Rattle.fields.specs.Fields.{field, hasFields}
-use Rattle.characters.specs.Named.{Named, find}
+use Rattle.characters.specs.Named.{find, among}
 use Rattle.characters.specs.declared.Class.{Class}
 use Rattle.characters.specs.declared.Class.the-variants.{Octal, Decimal}
 use Rattle.entry.specs.declared.Entry.{Entry}
 use Rattle.entry.specs.declared.Entry.the-variants.{Word, Register, Budget, Unfit}
-
--- "Machine registers, in this order ..: LAC (13 bits ..), PC (12), RUN (1), INTERRUPT.ENABLE (1), INTERRUPT.REQUEST (1), SWITCHES (12)"
-abbrev pub machineRegisters : List Named
-machineRegisters =
-    record { name = ascii "LAC"; number = lacBits }
-    ∷ record { name = ascii "PC"; number = wordBits }
-    ∷ record { name = ascii "RUN"; number = 1 }
-    ∷ record { name = ascii "INTERRUPT.ENABLE"; number = 1 }
-    ∷ record { name = ascii "INTERRUPT.REQUEST"; number = 1 }
-    ∷ record { name = ascii "SWITCHES"; number = wordBits }
-    ∷ []
-
--- the octal digits of a register: a digit for every three bits, LAC 5, PC and SWITCHES 4, the others 1
-abbrev pub digitsOf : ℕ → ℕ
-digitsOf width = (width + 2) / 3
 
 -- whether a field is n digits
 abbrev pub isDigits : Class → ℕ → List ℕ → Bool
@@ -69,7 +54,7 @@ said name value =
     elim (same name (ascii "budget")) [
       | true ↦ budgetEntry value
       | false ↦
-          elim (ltb (find name machineRegisters) (length machineRegisters)) [
+          elim (among name machineRegisters) [
             | true ↦ registerEntry (find name machineRegisters) (getD widths (find name machineRegisters) 0) value
             | false ↦ wordEntry name value
           ]

@@ -1,20 +1,16 @@
 // What a line says: a word of the memory, a machine register, the budget, or nothing that is known.
 use characters::Class;
+use machine::registers;
+use machine::registers::MACHINE_REGISTERS;
 use state::BUDGET_LIMIT;
 ghost use mathlib.Core.Path.{_≡_};
 ghost use Prim.Native.Nat.{_<_};
 ghost use lib.ListN.{length, getD};
-ghost use Rattle.machine.specs.State.{widths};
-ghost use Rattle.characters.specs.Named.{find};
-ghost use Rattle.entry.specs.Lines.{machineRegisters, isDigits, wordEntry, registerEntry, budgetEntry, said, entry};
-
-pub const REGISTERS: usize = 6;
+ghost use Rattle.machine.specs.Registers.{machineRegisters, widths};
+ghost use Rattle.entry.specs.Lines.{isDigits, wordEntry, registerEntry, budgetEntry, said, entry};
 
 // No fit line has more bytes.
 pub const LINE_BYTES: usize = 24;
-
-// The bits of each register, in their order.
-const WIDTHS: [u64; REGISTERS] = [13, 12, 1, 1, 1, 12];
 
 const BUDGET_DIGITS: usize = 7;
 
@@ -53,8 +49,9 @@ fn register_entry(place: usize, value: &[u8]) -> Entry
     requires { ⌜ place < length machineRegisters ⌝ }
     ensures { λ r. ⌜ r ≡ registerEntry place (getD widths place 0) (now (value .entry)) ⌝ }
 {
-    let width = WIDTHS[place];
-    let n = ((width + 2) / 3) as usize;
+    let register = registers::register_at(place);
+    let width = register.width;
+    let n = registers::digits_of(width);
     if is_digits(Class::Octal, n, value) {
         let v = constants::digits_value(value, 0, n, 8);
         if word::is_narrow(width, v) {
@@ -78,31 +75,6 @@ fn budget_entry(value: &[u8]) -> Entry
     Entry::Unfit
 }
 
-// The place of a machine register in their order, by its name; their number where it is none.
-fn register_place(name: &[u8]) -> usize
-    ensures { λ r. ⌜ r ≡ find (now (name .entry)) machineRegisters ⌝ }
-{
-    if characters::is_same(b"LAC", name) {
-        return 0;
-    }
-    if characters::is_same(b"PC", name) {
-        return 1;
-    }
-    if characters::is_same(b"RUN", name) {
-        return 2;
-    }
-    if characters::is_same(b"INTERRUPT.ENABLE", name) {
-        return 3;
-    }
-    if characters::is_same(b"INTERRUPT.REQUEST", name) {
-        return 4;
-    }
-    if characters::is_same(b"SWITCHES", name) {
-        return 5;
-    }
-    REGISTERS
-}
-
 // A line of two fields, by its first.
 fn two_fields(name: &[u8], value: &[u8]) -> Entry
     ensures { λ r. ⌜ r ≡ said (now (name .entry)) (now (value .entry)) ⌝ }
@@ -110,8 +82,8 @@ fn two_fields(name: &[u8], value: &[u8]) -> Entry
     if characters::is_same(name, b"budget") {
         return budget_entry(value);
     }
-    let place = register_place(name);
-    if place < REGISTERS {
+    let place = registers::place_of(name);
+    if place < MACHINE_REGISTERS {
         return register_entry(place, value);
     }
     word_entry(name, value)

@@ -19,7 +19,8 @@ use Rattle.state.specs.declared.Verdict.the-variants.{Fit, Unfit}
 use Rattle.state.proofs.Accepted.{state-sound}
 use Rattle.state.proofs.Numbers.{numbered}
 use Rattle.machine.specs.declared.Machine.{Machine}
-use Rattle.machine.specs.State.{State, Good, widths, values, start, registers}
+use Rattle.machine.specs.State.{State, Good, start, registers}
+use Rattle.machine.specs.Registers.{machineRegisters, widths, values}
 use Rattle.pdp8.specs.Run.{Run, runFrom, run}
 use Rattle.pdp8.proofs.Runs.{reason-from, run-good}
 use Rattle.emulator.specs.Emulate as emulator
@@ -32,7 +33,6 @@ use Rattle.evaluator.specs.Evaluate.{evaluate}
 use Rattle.evaluator.specs.declared.Outcome.{Outcome}
 use Rattle.evaluator.specs.declared.Outcome.the-variants.{Ran, Unread, Refused}
 use Rattle.last_lines.specs.LastLines.{endLine}
-use Rattle.entry.specs.Lines.{machineRegisters}
 use Rattle.pdp8_rows.specs.Text.{shippedText}
 use Rattle.shipped.specs.Claim.{Claim, cyclesOf}
 use Rattle.shipped.proofs.Starts.{every-start}

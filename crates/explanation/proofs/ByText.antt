@@ -9,6 +9,7 @@ use borrow.Author.Tests.{ne-eqb}
 use Rattle.word.specs.Choice.{on, pick}
 use Rattle.state.specs.declared.Verdict.{Verdict}
 use Rattle.machine.specs.State.{start, Good}
+use Rattle.machine.specs.Registers.{machineOf}
 use Rattle.emulator.proofs.Starts.{good-checked}
 use Rattle.last_lines.specs.LastLines.{refusedLine}
 use Rattle.image.specs.Pass.{Countable}
@@ -16,7 +17,7 @@ use Rattle.inquiry.specs.Input.{Inquiry}
 use Rattle.inquiry.specs.Scan.{Scan, unfitLine, scanOf}
 use Rattle.inquiry.proofs.ByLines.{by-lines}
 use Rattle.inquiry.proofs.Sound.{Sound, reached-sound}
-use Rattle.explanation.specs.Explanation.{machineOf, explained, answerTo, explanation, checkedBy, answered, scanExplanation}
+use Rattle.explanation.specs.Explanation.{explained, answerTo, explanation, checkedBy, answered, scanExplanation}
 
 abbrev reply : Inquiry → List ℕ
 reply q = answered (machineOf (q .registers)) (q .memory) (q .budget)

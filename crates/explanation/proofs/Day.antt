@@ -6,7 +6,8 @@ use Prim.Native.Nat.{ℕ}
 use lib.ListN.{length, drop}
 use Rattle.machine.specs.Interrupt.{interruptTest}
 use Rattle.machine.specs.declared.Machine.{Machine}
-use Rattle.machine.specs.State.{start, values, registers}
+use Rattle.machine.specs.State.{start, registers}
+use Rattle.machine.specs.Registers.{machineRegisters, machineOf, values}
 use Rattle.reference.specs.Address.{firstAddress, indexed, effective, afterIndexing}
 use Rattle.reference.specs.Reference.{operation, reference}
 use Rattle.operate.specs.Operate.{changed, rotated, skips, group1, group2, operate}
@@ -28,14 +29,14 @@ use Rattle.cycles.specs.Run as cycles
 use Rattle.pdp8_rows.specs.Text.{shippedText}
 use Rattle.pdp8_rows.proofs.Tree.{tree}
 use Rattle.pdp8_rows.proofs.Accepted.{shipped-is}
-use Rattle.entry.specs.Lines.{machineRegisters, wordEntry, registerEntry, budgetEntry, said, entry}
+use Rattle.entry.specs.Lines.{wordEntry, registerEntry, budgetEntry, said, entry}
 use Rattle.inquiry.specs.Input.{ready, entered, asked, firstUnfit}
 use Rattle.targets.specs.Targets.{passes}
 use Rattle.desk_mnemonics.specs.Mnemonics.{names, namesOf, spaced, mnemonic}
 use Rattle.desk_last_step.specs.LastStep.{lastLine, wordLine, changeLines, lastStep}
 use Rattle.run_lines.specs.Registers.{registerLines, workingValues}
 use Rattle.run_lines.specs.Rows.{rowTexts, atLine, labelLine, rowLine, rowLines}
-use Rattle.explanation.specs.Explanation.{machineOf, placesOf, told, beforeLast, explained, explanation}
+use Rattle.explanation.specs.Explanation.{placesOf, told, beforeLast, explained, explanation}
 
 -- what no line gives is as for the day listing: the state of each memory, and the budget
 pub starts-as-listed : (memory : List ℕ) → start (machineOf (ready .registers)) memory ≡ listing.ready memory

@@ -17,6 +17,7 @@ use Rattle.page.specs.Text.{octal, decimalIn, decimal}
 use Rattle.image.proofs.Cut.{clean, clean-append, cut-first, Whole, whole-none, whole-append, whole-feed}
 use Rattle.machine.specs.declared.Machine.{Machine}
 use Rattle.machine.specs.State.{State, word, start}
+use Rattle.machine.specs.Registers.{machineOf}
 use Rattle.pdp8.specs.Step.{step}
 use Rattle.pdp8.specs.Run.{run}
 use Rattle.image.specs.Input as image
@@ -27,7 +28,7 @@ use Rattle.day_listing.specs.Listing as listing
 use Rattle.day_listing.specs.Listing.{listingOf, runListing, dayListing}
 use Rattle.inquiry.specs.Input.{ready, asked}
 use Rattle.inquiry.proofs.Images.{image-asks}
-use Rattle.explanation.specs.Explanation.{machineOf, told, explained, answerTo, explanation}
+use Rattle.explanation.specs.Explanation.{told, explained, answerTo, explanation}
 
 -- a text that begins with a line
 record Begins (line text : List ℕ) : Type 0 where

@@ -3,37 +3,33 @@
 use mathlib.Core.Path.{_≡_}
 use mathlib.Core.List.{List, [], _++_}
 use Prim.Native.Nat.{ℕ, zero, suc, _-_, _<_, _≤_}
-use lib.ListN.{length, getD, replicate}
+use lib.ListN.{length, replicate}
 use Rattle.word.specs.Choice.{on, pick}
 use Rattle.state.specs.Checks.{checkState}
 use Rattle.state.specs.declared.Verdict.{Verdict}
 use Rattle.state.specs.declared.Verdict.the-variants.{Fit, Unfit}
 use Rattle.machine.specs.declared.Machine.{Machine}
-use Rattle.machine.specs.State.{State, widths, values, start, registers}
+use Rattle.machine.specs.State.{State, start, registers}
+use Rattle.machine.specs.Registers.{machineRegisters, widths, values, machineOf}
 use Rattle.pdp8.specs.Run.{Run, run}
 use Rattle.emulator.specs.declared.Answer as emulator
 use Rattle.emulator.specs.declared.Answer.the-variants as emulated
+use Rattle.value.specs.Fitting.{registerPlaces}
 use Rattle.cycles.specs.Run as cycles
 use Rattle.last_lines.specs.LastLines.{endLine, refusedLine}
 use Rattle.fields.specs.Fields.{lines}
 use Rattle.evaluator.specs.declared.Outcome.{Outcome}
 use Rattle.evaluator.specs.declared.Outcome.the-variants.{Ran, Unread, Refused}
 use Rattle.shipped.specs.Claim.{cyclesOf}
-use Rattle.entry.specs.Lines.{machineRegisters}
 use Rattle.inquiry.specs.Input.{Inquiry, ready, asked, firstUnfit}
 use Rattle.inquiry.specs.Scan.{Scan, unfitLine}
 use Rattle.desk_last_step.specs.LastStep.{changeLines, lastStep, changeLinesBytes}
 use Rattle.run_lines.specs.Registers.{registerLines, workingRegisters, workingValues}
 use Rattle.run_lines.specs.Rows.{rowLines}
 
--- the registers that an inquiry gives, as the emulator takes them
-abbrev pub machineOf : List ℕ → Machine
-machineOf rs =
-    record { lac = getD rs 0 0; pc = getD rs 1 0; run = getD rs 2 0; enable = getD rs 3 0; request = getD rs 4 0; switches = getD rs 5 0 }
-
--- and as the evaluator takes them: "the evaluator's sixteen places", with 0 in those of no machine register
+-- a machine's registers, as the evaluator takes them: "the evaluator's sixteen places", with 0 in those of no machine register
 abbrev pub placesOf : Machine → List ℕ
-placesOf m = values m ++ replicate 10 0
+placesOf m = values m ++ replicate (registerPlaces - length machineRegisters) 0
 
 -- what is said of a run of the machine, of the state before its last step, and of the run of the rows: "how the run ended"; "the instruction of the last step" and each "word of
 -- memory that the last step changed"; "the six machine registers, then the working registers of the description"; each "row that acted in the last step"

@@ -1,8 +1,8 @@
 // The explanation of a run: what an inquiry asks for is run by emulator and evaluator, and the text of how it ended is written.
-use entry::REGISTERS;
 use evaluator::Outcome;
 use inquiry::Scanner;
 use machine::Machine;
+use machine::registers::MACHINE_REGISTERS;
 use run_lines::PAGE_BYTES;
 use run_lines::registers;
 use run_lines::rows;
@@ -16,57 +16,30 @@ ghost use Prim.Native.Nat.{_-_, _≤_};
 ghost use lib.ListN.{length, take};
 ghost use Rattle.word.specs.Choice.{on, pick};
 ghost use Rattle.state.specs.declared.Reason.the-variants.{Halted, Spent};
-ghost use Rattle.machine.specs.State.{values};
+ghost use Rattle.machine.specs.Registers.{machineRegisters, values};
 ghost use Rattle.page.specs.Written.{Page};
 ghost use Rattle.last_lines.specs.LastLines.{endLine};
 ghost use Rattle.emulator.specs.Emulate as emulation;
 ghost use Rattle.evaluator.specs.Evaluate.{report};
 ghost use Rattle.shipped.specs.Claim.{Together};
-ghost use Rattle.entry.specs.Lines.{machineRegisters};
 ghost use Rattle.inquiry.specs.Scan.{held};
 ghost use Rattle.desk_last_step.specs.LastStep.{lastStep};
 ghost use Rattle.run_lines.specs.Registers.{registerLines, workingRegisters, workingValues};
 ghost use Rattle.run_lines.specs.Rows.{rowLines};
-ghost use Rattle.explanation.specs.Explanation.{machineOf, placesOf, pcIn, LastStep, answered as Explanation·answered, explanation as Explanation·explanation, scanExplanation, listedIn};
+ghost use Rattle.explanation.specs.Explanation.{placesOf, pcIn, LastStep, answered as Explanation·answered, explanation as Explanation·explanation, scanExplanation, listedIn};
 
-// The registers of an inquiry, as the emulator takes them.
-fn machine_of(rs: [u16; REGISTERS]) -> Machine
-    ensures { λ r. ⌜ r ≡ machineOf rs ⌝ }
-{
-    Machine {
-        lac: rs[0],
-        pc: rs[1],
-        run: rs[2],
-        enable: rs[3],
-        request: rs[4],
-        switches: rs[5],
-    }
-}
-
-// And as the evaluator takes them.
+// A machine's registers, as the evaluator takes them.
 fn places_of(m: Machine) -> Registers
     ensures { λ r. ⌜ r .values ≡ placesOf m ⌝ }
 {
-    Registers {
-        values: [
-            m.lac,
-            m.pc,
-            m.run,
-            m.enable,
-            m.request,
-            m.switches,
-            0,
-            0,
-            0,
-            0,
-            0,
-            0,
-            0,
-            0,
-            0,
-            0,
-        ],
+    let all = machine::registers::values_of(m);
+    let mut places = [0u16; 16];
+    let mut k = 0;
+    while k < MACHINE_REGISTERS {
+        places[k] = all[k];
+        k += 1;
     }
+    Registers { values: places }
 }
 
 // Runs emulator and evaluator, each on its own memory.
@@ -182,7 +155,7 @@ pub fn explanation(memory: &[u16; MEMORY_WORDS], s: Scanner, page: &mut [u8; PAG
         return last_lines::put_refused_line(page, refused);
     }
     let rs = s.registers;
-    answered(memory, machine_of(rs), s.budget, page)
+    answered(memory, machine::registers::machine_of(rs), s.budget, page)
 }
 
 // Writes the explanation of a whole text to the start of a page, and answers how many bytes it has.

@@ -1,31 +1,18 @@
 -- From the emulator's answer to a C caller's arrays: what each of its two cases says of memory, registers and outcome.
 -- Assumes nothing.
-use mathlib.Core.Path.{_≡_, refl, sym, ap, _∙_}
-use mathlib.Core.List.{List, [], _∷_}
+use mathlib.Core.Path.{_≡_, sym, ap, _∙_}
+use mathlib.Core.List.{List}
 use Prim.Native.Nat.{ℕ}
-use native.Mathlib.Omega.{arith}
-use lib.ListN.{length}
 use Rattle.state.specs.Refusals.{numberOf, placeOf, reasonNumber}
 use Rattle.state.specs.declared.Reason.{Reason}
 use Rattle.state.specs.declared.Refusal.{Refusal}
 use Rattle.machine.specs.declared.Machine.{Machine}
 use Rattle.emulator.specs.declared.Answer.{Answer}
 use Rattle.emulator.specs.declared.Answer.the-variants.{Ran, Refused}
-use Rattle.machine.specs.State.{values}
+use Rattle.machine.specs.Registers.{values, machineOf}
 use Rattle.emulator.specs.Emulate.{Report, report, emulate}
 use Rattle.guavachisel.specs.Outcome.{places, ran, refused}
-use Rattle.guavachisel.specs.Emulation.{machineOf, outcomeOf, Emulated}
-
--- six numbers are what they are read as
-pub six : (l : List ℕ) → length l ≡ 6 → values (machineOf l) ≡ l
-six [] e = absurd (omega arith)
-six (a ∷ []) e = absurd (omega arith)
-six (a ∷ b ∷ []) e = absurd (omega arith)
-six (a ∷ b ∷ c ∷ []) e = absurd (omega arith)
-six (a ∷ b ∷ c ∷ d ∷ []) e = absurd (omega arith)
-six (a ∷ b ∷ c ∷ d ∷ f ∷ []) e = absurd (omega arith)
-six (a ∷ b ∷ c ∷ d ∷ f ∷ g ∷ []) e = refl
-six (a ∷ b ∷ c ∷ d ∷ f ∷ g ∷ h ∷ more) e = absurd (omega arith)
+use Rattle.guavachisel.specs.Emulation.{outcomeOf, Emulated}
 
 module _ (mem regs mem′ : List ℕ) (m : Machine) (budget : ℕ) (answer : Answer)
     (came : values m ≡ regs) (reported : report m answer mem′ ≡ emulate m mem budget) where
@@ -33,13 +20,13 @@ module _ (mem regs mem′ : List ℕ) (m : Machine) (budget : ℕ) (answer : Ans
   given : report m answer mem′ ≡ emulate (machineOf regs) mem budget
   given = reported ∙ ap (λ (l : List ℕ). emulate (machineOf l) mem budget) came
 
-  pub ran-emulated : (after : Machine) (why : Reason) (steps : ℕ) (out : List ℕ) → answer ≡ Ran after why steps → out ≡ places (ran steps (reasonNumber why) 0)
-      → Emulated mem regs budget mem′ (values after) out
-  ran-emulated after why steps out e f =
+  pub ran-emulated : (after : Machine) (why : Reason) (steps : ℕ) (regs′ out : List ℕ) → answer ≡ Ran after why steps → regs′ ≡ values after
+      → out ≡ places (ran steps (reasonNumber why) 0) → Emulated mem regs budget mem′ regs′ out
+  ran-emulated after why steps regs′ out e left f =
       let all = sym (ap (λ (a : Answer). report m a mem′) e) ∙ given in
       record {
         memory = ap (λ (r : Report). r .memory) all;
-        machine = ap (λ (r : Report). values (r .machine)) all;
+        machine = left ∙ ap (λ (r : Report). values (r .machine)) all;
         outcome = f ∙ ap (λ (r : Report). places (outcomeOf r)) all;
       }
 

@@ -3,17 +3,10 @@
 use mathlib.Core.Path.{_≡_}
 use mathlib.Core.List.{List}
 use Prim.Native.Nat.{ℕ}
-use lib.ListN.{getD}
-use Rattle.machine.specs.declared.Machine.{Machine}
-use Rattle.machine.specs.State.{values}
+use Rattle.machine.specs.Registers.{values, machineOf}
 use Rattle.emulator.specs.Emulate.{Report, emulate}
 use Rattle.guavachisel.specs.declared.outcome.Outcome.{Outcome}
 use Rattle.guavachisel.specs.Outcome.{places}
-
--- "guavachisel_machine": LAC, PC, RUN, INTERRUPT.ENABLE, INTERRUPT.REQUEST, SWITCHES
-abbrev pub machineOf : List ℕ → Machine
-machineOf l =
-    record { lac = getD l 0 0; pc = getD l 1 0; run = getD l 2 0; enable = getD l 3 0; request = getD l 4 0; switches = getD l 5 0 }
 
 -- what it speaks of: refusal and place, steps and reason
 abbrev pub outcomeOf : Report → Outcome
@@ -30,7 +23,7 @@ outcomeOf r =
       sum = 0;
     }
 
--- everything after the call: memory, machine and outcome
+-- everything after the call: memory, machine ("guavachisel_machine", the registers in their order) and outcome
 pub record Emulated (mem regs : List ℕ) (budget : ℕ) (mem′ regs′ out′ : List ℕ) : Type 0 where
   pub memory : mem′ ≡ emulate (machineOf regs) mem budget .memory
   pub machine : regs′ ≡ values (emulate (machineOf regs) mem budget .machine)

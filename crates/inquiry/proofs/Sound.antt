@@ -13,7 +13,7 @@ use Rattle.state.specs.Limits.{budgetLimit}
 use Rattle.state.specs.Checks.{firstTooWide}
 use Rattle.state.specs.Acceptable.{Acceptable, Fitting}
 use Rattle.state.proofs.Accepted.{registers-fitting, store-acceptable, store-fitting}
-use Rattle.machine.specs.State.{widths}
+use Rattle.machine.specs.Registers.{widths}
 use Rattle.image.specs.Pass.{pass}
 use Rattle.image.proofs.Sound.{clear-acceptable}
 use Rattle.characters.specs.Ascii.{lineFeed}

@@ -21,7 +21,8 @@ use Rattle.characters.proofs.Strings.{equal}
 use Rattle.constants.specs.Constants.{numberAt}
 use Rattle.fields.specs.Fields.{until, after, field, hasFields}
 use Rattle.characters.specs.Named.{Named, find}
-use Rattle.entry.specs.Lines.{machineRegisters, isDigits, wordEntry, said, entry}
+use Rattle.machine.specs.Registers.{machineRegisters}
+use Rattle.entry.specs.Lines.{isDigits, wordEntry, said, entry}
 use Rattle.entry.specs.declared.Entry.the-variants.{Word}
 
 -- what is known of an octal digit's byte

@@ -5,6 +5,7 @@ use mathlib.Core.List.{List, [], _∷_}
 use mathlib.Core.Bool.{true, false}
 use Prim.Native.Nat.{ℕ, suc}
 use lib.ListN.{set}
+use Rattle.machine.specs.Registers.{values}
 use Rattle.image.specs.Input.{clear}
 use Rattle.fields.specs.Fields.{Line}
 use Rattle.entry.specs.Lines.{entry, isUnfit}
@@ -19,7 +20,8 @@ pub record Inquiry : Type 0 where
 
 -- "memory words and registers are 0, PC is 0200, RUN is 1, the budget is 16" where nothing is said
 unfoldable pub ready : Inquiry
-ready = record { registers = 0 ∷ 0o200 ∷ 1 ∷ 0 ∷ 0 ∷ 0 ∷ []; budget = 16; memory = clear }
+ready =
+    record { registers = values (record { lac = 0; pc = 0o200; run = 1; enable = 0; request = 0; switches = 0 }); budget = 16; memory = clear }
 
 -- "Each line, read or written, ends with LF"
 abbrev pub lineEntry : Line → Entry

@@ -2,7 +2,8 @@
 use characters::LINE_FEED;
 use entry::Entry;
 use entry::LINE_BYTES;
-use entry::REGISTERS;
+use machine::Machine;
+use machine::registers::MACHINE_REGISTERS;
 use state::MEMORY_WORDS;
 ghost use mathlib.Core.Path.{_≡_};
 ghost use mathlib.Core.List.{List, []};
@@ -17,7 +18,7 @@ pub struct Scanner {
     pub line: u64,
     pub size: usize,
     pub bytes: [u8; LINE_BYTES],
-    pub registers: [u16; REGISTERS],
+    pub registers: [u16; MACHINE_REGISTERS],
     pub budget: u64,
     pub refused: u64,
 }
@@ -79,7 +80,7 @@ fn entered(memory: &mut [u16; MEMORY_WORDS], s: Scanner, e: Entry) -> Scanner
             load(memory, address, word);
         }
         Entry::Register(place, value) => {
-            if place < REGISTERS {
+            if place < MACHINE_REGISTERS {
                 next.registers[place] = value;
             }
         }
@@ -128,11 +129,19 @@ pub fn begin(memory: &mut [u16; MEMORY_WORDS]) -> Scanner
     ensures { λ r. ⌜ held r (now (memory .exit)) ≡ scanOf [] ⌝ }
 {
     *memory = [0; MEMORY_WORDS];
+    let start = Machine {
+        lac: 0,
+        pc: 0o200,
+        run: 1,
+        enable: 0,
+        request: 0,
+        switches: 0,
+    };
     Scanner {
         line: 1,
         size: 0,
         bytes: [0; LINE_BYTES],
-        registers: [0, 0o200, 1, 0, 0, 0],
+        registers: machine::registers::values_of(start),
         budget: 16,
         refused: 0,
     }

@@ -1,4 +1,4 @@
 pub mod Lac
 pub mod Keeps
-pub mod Registers
+pub mod Places
 pub mod Served

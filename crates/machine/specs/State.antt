@@ -1,14 +1,13 @@
 -- The state of the machine: its six registers and memory; the parts of LAC; and what a state is that keeps every width.
 -- Assumes nothing.
-use mathlib.Core.List.{List, [], _∷_}
+use mathlib.Core.List.{List}
 use Prim.Native.Nat.{ℕ, _^_, _<_}
 use lib.ListN.{getD, set}
 use Rattle.word.specs.Word.{wordBits, bits, withBits}
 use Rattle.state.specs.Acceptable.{Acceptable}
 use Rattle.machine.specs.declared.Machine.{Machine}
 
--- "Memory M: 4,096 words of 12 bits. Machine registers, in this order ..: LAC (13 bits; L is its bit 0, AC its bits 1 to 12), PC (12),
--- RUN (1), INTERRUPT.ENABLE (1), INTERRUPT.REQUEST (1), SWITCHES (12)"
+-- "Memory M: 4,096 words of 12 bits", and the machine registers; Registers has their order, names and widths
 pub record State : Type 0 where
   pub lac : ℕ
   pub pc : ℕ
@@ -18,17 +17,9 @@ pub record State : Type 0 where
   pub switches : ℕ
   pub memory : List ℕ
 
--- the width of LAC
+-- "LAC (13 bits; L is its bit 0, AC its bits 1 to 12)"
 abbrev pub lacBits : ℕ
 lacBits = 13
-
--- the widths of the machine registers, in their order
-abbrev pub widths : List ℕ
-widths = lacBits ∷ wordBits ∷ 1 ∷ 1 ∷ 1 ∷ wordBits ∷ []
-
--- and the values, of the registers as a caller hands them over
-abbrev pub values : Machine → List ℕ
-values m = m .lac ∷ m .pc ∷ m .run ∷ m .enable ∷ m .request ∷ m .switches ∷ []
 
 -- the state that a caller's registers and memory make
 abbrev pub start : Machine → List ℕ → State

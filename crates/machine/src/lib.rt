@@ -1,6 +1,7 @@
-// The parts that every instruction shares: the registers, words of memory, and the interrupt test with op 6, which switches it.
+// The parts that every instruction shares: the registers and their table, words of memory, and the interrupt test with op 6, which switches it.
 pub mod interrupt;
 pub mod memory;
+pub mod registers;
 
 // The number of LAC's values: L, and a word.
 pub const LAC_VALUES: u64 = 8192;

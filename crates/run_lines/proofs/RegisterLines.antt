@@ -1,21 +1,23 @@
--- How many bytes a register's line has, where it ends on the page, and how many the machine's six lines and the four of the working registers have.
+-- How many bytes a register's line has, where it ends on the page, and how many the lines of the machine registers, by their table, and of the four working registers have.
 -- Assumes nothing.
-use mathlib.Core.Path.{_≡_, ap, _∙_}
-use mathlib.Core.List.{List, [], _∷_, _++_}
-use Prim.Native.Nat.{ℕ, _+_}
+use mathlib.Core.Path.{_≡_, refl, sym, ap, ap₂, _∙_}
+use mathlib.Core.List.{List, [], _∷_, _++_, append-nil, append-assoc}
+use Prim.Native.Nat.{ℕ, zero, suc, _+_, _≤_, _<_}
+use native.Mathlib.Numerals.{add-one}
 use native.Mathlib.Omega.{arith}
-use lib.ListN.{length, getD, drop, length-append}
+use lib.ListN.{length, getD, take, drop, length-append}
+use lib.Dec.{lit≤}
 use lib.Seq.{drop-cons}
 use Rattle.machine.specs.declared.Machine.{Machine}
-use Rattle.machine.specs.State.{values}
+use Rattle.machine.specs.Registers.{machineRegisters, digitsOf, values}
+use Rattle.characters.specs.Named.{Named}
 use Rattle.characters.specs.Ascii.{ascii, tab, lineFeed}
 use Rattle.page.specs.Text.{octal}
 use Rattle.page.specs.Written.{Written}
 use Rattle.page.proofs.Numbers.{octal-length}
 use Rattle.declaration.specs.Rows.{Description}
 use Rattle.pdp8_rows.proofs.Accepted.{shipped-is}
-use Rattle.entry.specs.Lines.{machineRegisters}
-use Rattle.run_lines.specs.Registers.{registerLines, workingRegisters, workingValues, registerLinesBytes, workingLinesBytes}
+use Rattle.run_lines.specs.Registers.{registerLine, registerLines, workingRegisters, workingValues, registerLinesBytes, workingLinesBytes}
 
 register-size : (name : List ℕ) (n value : ℕ) → length (name ++ tab ∷ octal n value ++ lineFeed ∷ []) ≡ length name + n + 2
 register-size name n value = let digits = octal-length n value in simp length-append (omega arith)
@@ -24,15 +26,43 @@ pub register-end : (name : List ℕ) (n value : ℕ) {before after : List ℕ} {
     → Written (name ++ tab ∷ octal n value ++ lineFeed ∷ []) before at after end → end ≡ at + (length name + n + 2)
 register-end name n value {at = at} w = w .place ∙ ap (λ (k : ℕ). at + k) (register-size name n value)
 
+-- the bytes of a register's line by the table, and of the lines of all its registers
+abbrev pub lineSize : Named → ℕ
+lineSize r = length (r .name) + digitsOf (r .number) + 2
+
+abbrev pub linesSize : List Named → ℕ
+linesSize [] = 0
+linesSize (r ∷ rs) = lineSize r + linesSize rs
+
+pub lines-size : (rs : List Named) (vs : List ℕ) → length rs ≤ length vs → length (registerLines rs vs) ≡ linesSize rs
+lines-size [] vs h = refl
+lines-size (r ∷ rs) [] h = absurd (omega arith)
+lines-size (r ∷ rs) (v ∷ vs) h =
+    length-append (registerLine r v) (registerLines rs vs)
+    ∙ ap₂ _+_ (register-size (r .name) (digitsOf (r .number)) v) (lines-size rs vs (omega arith))
+
 pub registers-size : (m : Machine) → length (registerLines machineRegisters (values m)) ≡ registerLinesBytes
-registers-size m =
-    let lac = octal-length 5 (m .lac) in
-    let pc = octal-length 4 (m .pc) in
-    let run = octal-length 1 (m .run) in
-    let enable = octal-length 1 (m .enable) in
-    let request = octal-length 1 (m .request) in
-    let switches = octal-length 4 (m .switches) in
-    simp length-append (omega arith)
+registers-size m = lines-size machineRegisters (values m) (lit≤ tt)
+
+-- with the lines of the first k registers written there is room for the next
+pub lines-room : (rs : List Named) (z : Named) (k : ℕ) → k < length rs → linesSize (take k rs) + lineSize (getD rs k z) ≤ linesSize rs
+lines-room [] z k h = absurd (omega arith)
+lines-room (r ∷ rs) z zero h = omega arith
+lines-room (r ∷ rs) z (suc k) h = omega (arith, lines-room rs z k (omega arith))
+
+-- one line more
+next-line : (rs : List Named) (vs : List ℕ) (z : Named) (k : ℕ) → k < length rs → k < length vs
+    → registerLines (take (suc k) rs) (take (suc k) vs) ≡ registerLines (take k rs) (take k vs) ++ registerLine (getD rs k z) (getD vs k 0)
+next-line [] vs z k h q = absurd (omega arith)
+next-line (r ∷ rs) [] z k h q = absurd (omega arith)
+next-line (r ∷ rs) (v ∷ vs) z zero h q = append-nil (registerLine r v)
+next-line (r ∷ rs) (v ∷ vs) z (suc k) h q =
+    ap (λ (l : List ℕ). registerLine r v ++ l) (next-line rs vs z k (omega arith) (omega arith))
+    ∙ sym (append-assoc (registerLine r v) (registerLines (take k rs) (take k vs)) (registerLine (getD rs k z) (getD vs k 0)))
+
+pub lines-more : (rs : List Named) (vs : List ℕ) (z : Named) (k : ℕ) → k < length rs → k < length vs
+    → registerLines (take (k + 1) rs) (take (k + 1) vs) ≡ registerLines (take k rs) (take k vs) ++ registerLine (getD rs k z) (getD vs k 0)
+lines-more rs vs z k h q = rw (add-one k) (next-line rs vs z k h q)
 
 -- "A shipped description's registers that the emulator lacks": i, last.pc, eadd, skip
 pub working-registers : workingRegisters

@@ -6,8 +6,8 @@ use lib.ListN.{length, drop}
 use Rattle.characters.specs.Ascii.{tab, lineFeed}
 use Rattle.page.specs.Text.{octal}
 use Rattle.characters.specs.Named.{Named}
+use Rattle.machine.specs.Registers.{machineRegisters, digitsOf}
 use Rattle.pdp8_rows.specs.Text.{shipped}
-use Rattle.entry.specs.Lines.{machineRegisters, digitsOf}
 
 -- "its name and the value that the run leaves, in octal with a digit for every three bits begun"
 abbrev pub registerLine : Named → ℕ → List ℕ

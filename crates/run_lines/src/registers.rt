@@ -2,17 +2,17 @@
 use crate::PAGE_BYTES;
 use characters::LINE_FEED;
 use machine::Machine;
+use machine::registers::MACHINE_REGISTERS;
 use page::put_byte;
 use page::put_field;
 use page::put_text;
 ghost use mathlib.Core.List.{[], _∷_, _++_};
 ghost use Prim.Native.Nat.{_+_, _≤_};
 ghost use lib.ListN.{length};
-ghost use Rattle.machine.specs.State.{values};
+ghost use Rattle.machine.specs.Registers.{machineRegisters, values};
 ghost use Rattle.characters.specs.Ascii.{tab, lineFeed};
 ghost use Rattle.page.specs.Text.{octal};
 ghost use Rattle.page.specs.Written.{Written};
-ghost use Rattle.entry.specs.Lines.{machineRegisters};
 ghost use Rattle.run_lines.specs.Registers.{registerLines, workingRegisters, workingValues, registerLinesBytes, workingLinesBytes, pageBytes};
 
 // A register's line: its name, TAB, its value in n octal digits.
@@ -25,17 +25,28 @@ fn put_register(page: &mut [u8; PAGE_BYTES], at: usize, name: &[u8], n: u64, val
     put_byte(page, end, LINE_FEED)
 }
 
-// The six registers.
+// The machine registers.
 pub fn put_registers(page: &mut [u8; PAGE_BYTES], at: usize, m: Machine) -> usize
     requires { ⌜ at + registerLinesBytes ≤ pageBytes ⌝ }
     ensures { λ r. ⌜ Written (registerLines machineRegisters (values m)) (now (page .entry)) at (now (page .exit)) r ⌝ }
 {
-    let pc = put_register(page, at, b"LAC", 5, m.lac);
-    let run = put_register(page, pc, b"PC", 4, m.pc);
-    let enable = put_register(page, run, b"RUN", 1, m.run);
-    let request = put_register(page, enable, b"INTERRUPT.ENABLE", 1, m.enable);
-    let switches = put_register(page, request, b"INTERRUPT.REQUEST", 1, m.request);
-    put_register(page, switches, b"SWITCHES", 4, m.switches)
+    let all = machine::registers::values_of(m);
+    let mut end = at;
+    let mut k = 0;
+    while k < MACHINE_REGISTERS {
+        let register = machine::registers::register_at(k);
+        let letters = register.letters;
+        let n = machine::registers::digits_of(register.width);
+        end = put_register(
+            page,
+            end,
+            characters::part(&letters, 0, register.size),
+            n as u64,
+            all[k],
+        );
+        k += 1;
+    }
+    end
 }
 
 // The working registers, by the values of all the registers of the description.

@@ -9,7 +9,8 @@ use Rattle.state.specs.declared.Refusal.{Refusal}
 use Rattle.state.specs.declared.Verdict.{Verdict}
 use Rattle.state.specs.declared.Verdict.the-variants.{Fit, Unfit}
 use Rattle.machine.specs.declared.Machine.{Machine}
-use Rattle.machine.specs.State.{widths, values, start}
+use Rattle.machine.specs.State.{start}
+use Rattle.machine.specs.Registers.{widths, values}
 use Rattle.pdp8.specs.Run as steps
 use Rattle.emulator.specs.Emulate as emulator
 use Rattle.emulator.specs.Emulate.{emulate}

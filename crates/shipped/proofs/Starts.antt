@@ -5,7 +5,7 @@ use mathlib.Core.List.{List, _∷_, _++_}
 use Prim.Native.Nat.{ℕ, zero, suc, _+_, _^_, _≤_, _<_}
 use native.Mathlib.Omega.{arith}
 use lib.Dec.{lit≤}
-use lib.ListN.{length, getD, drop, replicate, take-append-drop}
+use lib.ListN.{length, getD, take, drop, replicate, take-append-drop}
 use lib.Seq.{drop-cons}
 use borrow.Author.Tests.{le-ltb}
 use Rattle.word.specs.Word.{wordBits}
@@ -15,20 +15,21 @@ use Rattle.state.specs.Limits.{budgetLimit, rowPlaces}
 use Rattle.state.specs.declared.Verdict.the-variants.{Fit as Passed}
 use Rattle.state.proofs.Accepted.{sound-state, zeros}
 use Rattle.machine.specs.declared.Machine.{Machine}
-use Rattle.machine.specs.State.{widths, values, start, Good}
+use Rattle.machine.specs.State.{start, Good}
+use Rattle.machine.specs.Registers.{machineRegisters, widths, values}
 use Rattle.emulator.proofs.Starts.{good-checked}
 use Rattle.value.specs.Value as rows
 use Rattle.evaluator.specs.Evaluate.{widthsOf, check}
 use Rattle.declaration.specs.Rows.{Description}
 use Rattle.pdp8_rows.specs.Text.{shipped}
-use Rattle.shipped.specs.Claim.{machinePart, Start}
+use Rattle.shipped.specs.Claim.{Start}
 use Rattle.pdp8_rows.proofs.Tree.{tree}
 use Rattle.pdp8_rows.proofs.Accepted.{shipped-is}
 use Rattle.pdp8_rows.proofs.Places.{Work, Fit, inPlaces}
 
 -- "Machine registers, in this order, which begins the shipped description too"
-pub shipped-begins : machinePart (widthsOf shipped) ≡ widths
-shipped-begins = ap (λ (d : Description). machinePart (widthsOf d)) shipped-is
+pub shipped-begins : take (length machineRegisters) (shipped .registers) ≡ machineRegisters
+shipped-begins = ap (λ (d : Description). take (length machineRegisters) (d .registers)) shipped-is
 
 -- n places of a list one by one, then the places that follow
 abbrev spelled : ℕ → ℕ → List ℕ → List ℕ

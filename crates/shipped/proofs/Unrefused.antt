@@ -12,7 +12,7 @@ use Rattle.state.specs.declared.Verdict.the-variants.{Fit, Unfit}
 use Rattle.state.proofs.Accepted.{row-list-long, both-fit, state-sound}
 use Rattle.state.proofs.Numbers.{numbered}
 use Rattle.machine.specs.declared.Machine.{Machine}
-use Rattle.machine.specs.State.{values}
+use Rattle.machine.specs.Registers.{values}
 use Rattle.emulator.specs.Emulate as emulator
 use Rattle.emulator.specs.Emulate.{emulate}
 use Rattle.text_limits.specs.Limits.{mostRegisters}

@@ -8,7 +8,8 @@ use lib.ListN.{length, take, drop}
 use Rattle.state.specs.Limits.{budgetLimit, rowPlaces}
 use Rattle.state.specs.Acceptable.{Acceptable, Fitting}
 use Rattle.machine.specs.declared.Machine.{Machine}
-use Rattle.machine.specs.State.{widths, values, start}
+use Rattle.machine.specs.State.{start}
+use Rattle.machine.specs.Registers.{machineRegisters, values}
 use Rattle.pdp8.specs.Run as steps
 use Rattle.emulator.specs.Emulate as emulator
 use Rattle.emulator.specs.Emulate.{emulate}
@@ -21,7 +22,7 @@ use Rattle.pdp8_rows.specs.Text.{shippedText, shipped}
 
 -- the machine registers among the evaluator's places: "in this order, which begins the shipped description too"
 abbrev pub machinePart : List ℕ → List ℕ
-machinePart registers = take (length widths) registers
+machinePart registers = take (length machineRegisters) registers
 
 -- a start of both runs that meets no refusal
 pub record Start (m : Machine) (registers memory : List ℕ) (budget : ℕ) (list : List ℕ) : Type 0 where
@@ -60,7 +61,7 @@ pub record Claim (m : Machine) (registers memory : List ℕ) (budget : ℕ) (lis
       ≡ cyclesOf registers memory budget .acted ++ drop (length (cyclesOf registers memory budget .acted)) list
 
 -- the two programs' own answers, each on its own memory: what each is, and that they are the same wherever the two memories hold the same words, the evaluator's
--- first six registers are the machine's, and nothing is refused
+-- first registers are the machine's, and nothing is refused
 pub record Together (m : Machine) (registers first second : List ℕ) (budget : ℕ) (list : List ℕ) (a : emulator.Report) (b : evaluator.Report) : Type 0 where
   pub emulated : a ≡ emulate m first budget
   pub evaluated : b ≡ evaluate shippedText registers second budget list

@@ -19,8 +19,8 @@ returns : tie.Need-returns
 unfolding said
 returns c = rw (sym (c .before .before .is-same .ensures) ∙ c .before .if1 .taken, said) (c .budget-entry .ensures)
 
-register-place-requires : tie.Need-register-place-requires
-register-place-requires c κs = search needs
+place-of-requires : tie.Need-place-of-requires
+place-of-requires c κs = search needs
 
 register-entry-requires : tie.Need-register-entry-requires
 register-entry-requires c κs = search needs
@@ -28,7 +28,7 @@ register-entry-requires c κs = search needs
 returns-2 : tie.Need-returns-2
 unfolding said
 returns-2 c = let found = c .before .before in
-    let place = found .register-place .ensures in
+    let place = found .place-of .ensures in
     let other = sym (found .before .before .is-same .ensures) ∙ found .before .if1 .left in
     rw (other, rw place at (lt-ltb _ _ (c .before .if2 .taken)), said) (rw place at (c .register-entry .ensures))
 
@@ -39,7 +39,7 @@ returns-3 : tie.Need-returns-3
 unfolding said
 returns-3 c = let found = c .before .before in
     let other = sym (found .before .before .is-same .ensures) ∙ found .before .if1 .left in
-    rw (other, rw (found .register-place .ensures) at (le-ltb _ _ (c .before .if2 .left)), said) (c .word-entry .ensures)
+    rw (other, rw (found .place-of .ensures) at (le-ltb _ _ (c .before .if2 .left)), said) (c .word-entry .ensures)
 
 pub two-fields-spec : {M : Type 1} → statement M
 two-fields-spec =
@@ -49,7 +49,7 @@ two-fields-spec =
     is-same-requires
     budget-entry-requires
     returns
-    register-place-requires
+    place-of-requires
     register-entry-requires
     returns-2
     word-entry-requires

@@ -1,5 +1,7 @@
 -- `explanation::explanation`: the scanner tells whether a line was unfit.
 use borrow.Author.Needs.{needs}
+use mathlib.Core.Path.{_≡_, ap}
+use Rattle.machine.specs.Registers.{machineOf}
 use Rattle.inquiry.specs.Scan.{held}
 use Rattle.explanation.proofs.ByText.{print-refused, print-answered}
 use Rattle.explanation.proofs.explanation.Statement.{statement}
@@ -22,12 +24,16 @@ machine-of-requires c κs = search needs
 answered-requires : tie.Need-answered-requires
 answered-requires c κs = search needs
 
+-- the machine that the inquiry's registers make
+asked : (c : tie.After-machine-of) → c .machine-of .result ≡ machineOf (c .before .before .before .before .args .s .registers)
+asked c = ap machineOf (c .machine-of .ensures)
+
 returns-2 : tie.Need-returns-2
 returns-2 c = let registers = c .before .before in
     let test = registers .before .before in
     let a = test .before .before .args in
     rw (print-answered (held (a .s) (a .memory .now)) _ (test .before .unfit-line .ensures) (test .if1 .left))
-    (rw (registers .machine-of .ensures) at (c .answered .ensures))
+    (rw (asked registers) at (c .answered .ensures))
 
 pub explanation-spec : {M : Type 1} → statement M
 explanation-spec =

@@ -1,14 +1,25 @@
 -- `inquiry::begin`: 4,096 zeros, and line 1.
-use mathlib.Core.Path.{refl}
+use borrow.Author.Needs.{needs}
+use mathlib.Core.Path.{ap}
+use mathlib.Core.List.{List, []}
+use Prim.Native.Nat.{ℕ}
 use Rattle.image.specs.Input.{clear}
 use Rattle.image.specs.Pass.{pass}
 use Rattle.inquiry.specs.Input.{ready}
+use Rattle.inquiry.specs.Scan.{Scan}
 use Rattle.inquiry.proofs.begin.Statement.{statement}
 use Rattle.inquiry.proofs.begin.Tie as tie
 
+-- before the first byte, with such registers
+abbrev begun : List ℕ → Scan
+begun registers = record { line = 1; part = []; refused = 0; inquiry = record { registers = registers; budget = 16; memory = clear } }
+
+values-of-requires : tie.Need-values-of-requires
+values-of-requires c κs = search needs
+
 returns : tie.Need-returns
 unfolding pass ready clear
-returns c = refl
+returns c = ap begun (c .values-of .ensures)
 
 pub begin-spec : {M : Type 1} → statement M
-begin-spec = tie.close (tie.spec returns)
+begin-spec = tie.close (tie.spec values-of-requires returns)

@@ -1,8 +1,8 @@
--- `emulation::loaded` reads the six places of the array.
-use Rattle.guavachisel.proofs.Answers.{six}
+-- `machine::registers::machine_of`: each value goes to the register of its place.
 use borrow.Author.Needs.{needs}
-use Rattle.guavachisel.proofs.emulation.loaded.Statement.{statement}
-use Rattle.guavachisel.proofs.emulation.loaded.Tie as tie
+use Rattle.machine.proofs.Places.{values-machine}
+use Rattle.machine.proofs.registers.machine_of.Statement.{statement}
+use Rattle.machine.proofs.registers.machine_of.Tie as tie
 
 array-read-t5 : tie.Need-array-read-t5
 array-read-t5 c = search needs
@@ -23,10 +23,10 @@ array-read-t20 : tie.Need-array-read-t20
 array-read-t20 c = search needs
 
 returns : tie.Need-returns
-returns c = six (c .args .t1) (search needs)
+returns c = values-machine (c .args .t1) (search needs)
 
-pub loaded-spec : {M : Type 1} → statement M
-loaded-spec =
+pub machine-of-spec : {M : Type 1} → statement M
+machine-of-spec =
     tie.close
     (tie.spec
     array-read-t5

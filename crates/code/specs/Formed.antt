@@ -12,8 +12,8 @@ use Rattle.characters.specs.Named.{Named}
 use Rattle.operators.specs.declared.Operator.{Operator}
 use Rattle.operators.specs.Operators.{rowOf, entryIn, strongest, rotations}
 use Rattle.bit_parts.specs.References.{widthIn}
-use Rattle.code.specs.Tree.{Expr, register, bitPart, constant, memory, complemented, rotated, binary, width, pieces, mostPieces, Destination, toRegister, toPart, toMemory, nowhere}
-use Rattle.code.specs.Readings.{Reading, read, outside, largestCount}
+use Rattle.code.specs.Tree.{Expr, register, bitPart, constant, memory, complemented, rotated, binary, width, pieces, mostPieces, Destination, toRegister, toPart, toMemory}
+use Rattle.code.specs.Readings.{Reading, read, outside, DestinationReading, leads, astray, largestCount}
 
 -- "width (1 to 16 ..)", of every register
 abbrev pub Registers : List Named → Type 0
@@ -61,4 +61,8 @@ abbrev pub FormedDestination : List Named → Destination → Type 0
 FormedDestination rs (toRegister r w) = record { listed : r < length rs; width-is : w ≡ widthIn rs r }
 FormedDestination rs (toPart r w a b) = record { listed : r < length rs; width-is : w ≡ widthIn rs r; ordered : a ≤ b; below : b < w }
 FormedDestination rs (toMemory t) = Accepted rs t
-FormedDestination rs nowhere = Unit {0}
+
+-- what holds of the destination that was read, if one was
+abbrev pub LeadsTo : (Destination → Type 0) → DestinationReading → Type 0
+LeadsTo P (leads d) = P d
+LeadsTo P astray = Unit {0}

@@ -14,12 +14,17 @@ use Rattle.bit_parts.specs.declared.Reference.{Reference}
 use Rattle.bit_parts.specs.declared.Reference.the-variants.{Whole, Part, Unknown}
 use Rattle.operators.specs.Operators.{entryIn}
 use Rattle.tokens.specs.Tokens.{squareClose, skip, next}
-use Rattle.code.specs.Tree.{Expr, register, bitPart, constant, memory, complemented, rotated, binary, width}
+use Rattle.code.specs.Tree.{Expr, register, bitPart, constant, memory, complemented, rotated, binary, width, Destination}
 
 -- a tree and the place after it, or nothing within the rules
 pub data Reading : Type 0 where
   read : Expr → ℕ → Reading
   outside : Reading
+
+-- a destination, or nothing within the rules
+pub data DestinationReading : Type 0 where
+  leads : Destination → DestinationReading
+  astray : DestinationReading
 
 -- "No width may pass 16"
 unfoldable pub limited : Expr → ℕ → Reading

@@ -46,9 +46,8 @@ pieces (binary o l r) = pieces l + pieces r + 1
 abbrev pub mostPieces : ℕ
 mostPieces = 32
 
--- "A destination is a name, a bit part `name<a>` or `name<a:b>` .., or `M[expression]`"; what is none of them leads nowhere
+-- "A destination is a name, a bit part `name<a>` or `name<a:b>` .., or `M[expression]`"
 pub data Destination : Type 0 where
   toRegister : ℕ → ℕ → Destination
   toPart : ℕ → ℕ → ℕ → ℕ → Destination
   toMemory : Expr → Destination
-  nowhere : Destination

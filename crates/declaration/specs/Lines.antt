@@ -1,7 +1,7 @@
 -- The lines that declare something, one by one: what each adds to what was read so far, or what it is turned down for.
 -- "Lines are taken in order; within one, lower numbers first, left field first." The lines of rows are crate row's.
 -- Assumes nothing.
-use Prim.Native.Nat.{ℕ}
+use Prim.Native.Nat.{ℕ, _+_}
 use mathlib.Core.Bool.{Bool, true, false, not, _&&_}
 use mathlib.Core.List.{List, [], _∷_, _++_}
 use lib.Dec.{eqb, leb, ltb}
@@ -33,32 +33,40 @@ goWord = ascii "go"
 abbrev pub atWord : List ℕ
 atWord = ascii "at"
 
--- what was read so far; `missing` is the line of the first `go` whose label isn't there, 0 if there is none
+-- what was read so far
 pub record Progress : Type 0 where
   pub registers : List Named
   pub labels : List Named
   pub rows : List Row
-  pub pieces : ℕ
-  pub begun : Bool
-  pub missing : ℕ
+
+-- with one register, label or row more
+abbrev pub withRegister : Progress → Named → Progress
+withRegister p e = record { registers = p .registers ++ (e ∷ []); labels = p .labels; rows = p .rows }
+
+abbrev pub withLabel : Progress → Named → Progress
+withLabel p e = record { registers = p .registers; labels = p .labels ++ (e ∷ []); rows = p .rows }
+
+abbrev pub withRow : Progress → Row → Progress
+withRow p r = record { registers = p .registers; labels = p .labels; rows = p .rows ++ (r ∷ []) }
 
 -- what a line comes to: a fault, or more of the description
 pub data Step : Type 0 where
   refused : Fault → Step
   next : Progress → Step
 
--- the number that was read, and the place after it
-abbrev pub widthOf : Number → ℕ
-widthOf (Plain w p) = w
-widthOf Unread = 0
+-- what a line comes to if a rule is kept; if not, it is refused
+abbrev pub kept : Bool → Fault → Step → Step
+kept true f x = x
+kept false f x = refused f
 
-abbrev pub endOf : Number → ℕ
-endOf (Plain w p) = p
-endOf Unread = 0
-
--- "width (1 to 16, no leading zero)"
+-- "width (1 to 16, no leading zero)", which is the whole field
 abbrev pub isWidth : List ℕ → Number → Bool
-isWidth s n = leb 1 (widthOf n) && leb (widthOf n) widest && eqb (endOf n) (length s)
+isWidth s (Plain w end) = leb 1 w && leb w widest && eqb end (length s)
+isWidth s Unread = false
+
+abbrev pub widthOf : Number → ℕ
+widthOf (Plain w end) = w
+widthOf Unread = 0
 
 -- "a name that is malformed, reserved or repeated"
 abbrev pub isNewName : List Named → List ℕ → Bool
@@ -67,26 +75,16 @@ isNewName rs s = isName s && not (isReserved s) && not (among s rs)
 -- ".. or a bad width"; "the 17th register"
 unfoldable pub addRegister : Progress → List ℕ → List ℕ → Step
 addRegister p s w =
-    elim (isNewName (p .registers) s && isWidth w (decimalAt w 0)) [
-      | true ↦
-          elim (ltb (length (p .registers)) mostRegisters) [
-            | true ↦
-                next (record {
-                  registers = p .registers ++ (record { name = s; number = widthOf (decimalAt w 0) } ∷ []);
-                  labels = p .labels;
-                  rows = p .rows;
-                  pieces = p .pieces;
-                  begun = p .begun;
-                  missing = p .missing;
-                })
-            | false ↦ refused Limit
-          ]
-      | false ↦ refused Register
-    ]
+    kept (isNewName (p .registers) s && isWidth w (decimalAt w 0)) Register
+    (kept (ltb (length (p .registers)) mostRegisters) Limit (next (withRegister p (record { name = s; number = widthOf (decimalAt w 0) }))))
+
+-- whether all lines so far are `reg` lines: each of the others brings a label or a row
+abbrev pub unbegun : Progress → Bool
+unbegun p = eqb (length (p .labels) + length (p .rows)) 0
 
 -- "`reg`, name, width"; "`reg` after another kind"
 unfoldable pub regLine : Progress → List ℕ → Step
-regLine p s = elim (hasFields 3 s && not (p .begun)) [ true ↦ addRegister p (field 1 s) (field 2 s) | false ↦ refused Line ]
+regLine p s = kept (hasFields 3 s && unbegun p) Line (addRegister p (field 1 s) (field 2 s))
 
 -- "an `at` label malformed, repeated or equal to a register name"
 abbrev pub isNewLabel : List Named → List Named → List ℕ → Bool
@@ -95,22 +93,9 @@ isNewLabel ls rs s = isName s && not (among s ls) && not (among s rs)
 -- "33rd label". A label has no number of its own: 0.
 unfoldable pub addLabel : Progress → List ℕ → Step
 addLabel p s =
-    elim (isNewLabel (p .labels) (p .registers) s) [
-      | true ↦
-          elim (ltb (length (p .labels)) mostLabels) [
-            | true ↦
-                next (record {
-                  registers = p .registers;
-                  labels = p .labels ++ (record { name = s; number = 0 } ∷ []);
-                  rows = p .rows;
-                  pieces = p .pieces;
-                  begun = true;
-                  missing = p .missing;
-                })
-            | false ↦ refused Limit
-          ]
-      | false ↦ refused Label
-    ]
+    kept (isNewLabel (p .labels) (p .registers) s) Label
+    (kept (ltb (length (p .labels)) mostLabels) Limit (next (withLabel p (record { name = s; number = 0 }))))
 
+-- "`at`, label"
 unfoldable pub atLine : Progress → List ℕ → Step
-atLine p s = elim (hasFields 2 s) [ true ↦ addLabel p (field 1 s) | false ↦ refused Line ]
+atLine p s = kept (hasFields 2 s) Line (addLabel p (field 1 s))

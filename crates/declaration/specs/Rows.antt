@@ -2,9 +2,9 @@
 -- "`do` and `go` lines are rows, numbered from 1."
 -- Assumes nothing.
 use Prim.Native.Nat.{ℕ, _+_}
-use mathlib.Core.List.{List}
+use mathlib.Core.List.{List, [], _∷_}
 use Rattle.characters.specs.Named.{Named}
-use Rattle.code.specs.Tree.{Expr, pieces, Destination, toRegister, toPart, toMemory, nowhere}
+use Rattle.code.specs.Tree.{Expr, pieces, Destination, toRegister, toPart, toMemory}
 
 pub data Row : Type 0 where
   -- "`do`, condition, destination, expression"
@@ -17,11 +17,14 @@ abbrev pub addressPieces : Destination → ℕ
 addressPieces (toRegister r w) = 0
 addressPieces (toPart r w a b) = 0
 addressPieces (toMemory t) = pieces t
-addressPieces nowhere = 0
 
 abbrev pub rowPieces : Row → ℕ
 rowPieces (does c d e) = pieces c + addressPieces d + pieces e
 rowPieces (goes c n) = pieces c
+
+unfoldable pub piecesOf : List Row → ℕ
+piecesOf [] = 0
+piecesOf (r ∷ rs) = rowPieces r + piecesOf rs
 
 -- a description that was read: registers with their widths, and rows
 pub record Description : Type 0 where

@@ -3,6 +3,7 @@
 use mathlib.Core.Path.{_≡_}
 use mathlib.Core.List.{List}
 use Prim.Native.Nat.{ℕ, _≤_}
+use lib.ListN.{length}
 use Rattle.names.specs.Dictionaries.{entries}
 use Rattle.declaration.specs.declared.lines.Progress as progress
 use Rattle.declaration.specs.declared.lines.Status.{Status}
@@ -15,14 +16,7 @@ use Rattle.declaration.specs.Lines.{Progress, Step, refused, next}
 -- what was read so far, by the code's numbers and the rows
 abbrev pub progressOf : List ℕ → progress.Progress → List Row → Progress
 progressOf text q rs =
-    record {
-      registers = entries text (q .registers);
-      labels = entries text (q .labels);
-      rows = rs;
-      pieces = q .pieces;
-      begun = q .begun;
-      missing = q .missing;
-    }
+    record { registers = entries text (q .registers); labels = entries text (q .labels); rows = rs }
 
 abbrev pub stepBy : Status → Progress → Step
 stepBy Goes p = next p
@@ -41,7 +35,9 @@ pub record Within (q : progress.Progress) : Type 0 where
 
 -- a line that adds no row
 pub record Plain (text : List ℕ) (f : Progress → Step) (q : progress.Progress) (r : step.Step) : Type 0 where
-  pub is : (rs : List Row) → f (progressOf text q rs) ≡ stepOf text r rs
+  pub is : (rs : List Row) → q .rows ≡ length rs → f (progressOf text q rs) ≡ stepOf text r rs
   pub same-rows : r .progress .rows ≡ q .rows
   pub same-words : r .progress .words ≡ q .words
+  pub same-pieces : r .progress .pieces ≡ q .pieces
+  pub same-missing : r .progress .missing ≡ q .missing
   pub within : Within (r .progress)

@@ -1,9 +1,10 @@
 // The lines that declare something: `reg` and `at`.
 use crate::faults::Fault;
-use crate::limits;
 use code::WIDEST;
 use constants::Number;
 use names::Dictionary;
+use text_limits::MOST_LABELS;
+use text_limits::MOST_REGISTERS;
 ghost use mathlib.Core.Path.{_≡_};
 ghost use mathlib.Core.Bool.{true};
 ghost use Prim.Native.Nat.{_+_, _≤_};
@@ -17,15 +18,13 @@ ghost use Rattle.characters.specs.Named.{among};
 ghost use Rattle.declaration.specs.Lines.{regWord, atWord, widthOf, isWidth, isNewName, addRegister, regLine, isNewLabel, addLabel, atLine};
 ghost use Rattle.declaration.specs.Stored.{Within, Plain};
 
-// What was read so far: registers and labels, the rows, words and pieces counted, whether a line of another kind than `reg` came, and the line of the
-// first `go` without its label, 0 if there is none.
+// What was read so far: registers and labels, the rows, words and pieces counted, and the line of the first `go` without its label, 0 if there is none.
 pub struct Progress {
     pub registers: Dictionary,
     pub labels: Dictionary,
     pub rows: usize,
     pub words: usize,
     pub pieces: usize,
-    pub begun: bool,
     pub missing: usize,
 }
 
@@ -103,7 +102,7 @@ fn add_register(text: &[u8], q: Progress, start: usize, name: &[u8], width: &[u8
     let registers = q.registers;
     let n = constants::decimal_at(width, 0);
     if is_new_name(text, registers, name) & is_width(width, n) {
-        if registers.count < limits::REGISTERS {
+        if registers.count < MOST_REGISTERS {
             let mut next = q;
             next.registers = names::with_name(
                 registers,
@@ -132,10 +131,9 @@ fn add_label(text: &[u8], q: Progress, start: usize, label: &[u8]) -> Step
 {
     let labels = q.labels;
     if is_new_label(text, labels, q.registers, label) {
-        if labels.count < limits::LABELS {
+        if labels.count < MOST_LABELS {
             let mut next = q;
             next.labels = names::with_name(labels, start as u16, label.len() as u16, 0);
-            next.begun = true;
             return taken(next);
         }
         return refused(q, Fault::Limit);
@@ -149,7 +147,7 @@ pub fn reg_line(text: &[u8], q: Progress, place: usize, line: &[u8]) -> Step
         ∗ ⌜ same (field 0 (now line)) regWord ≡ true ⌝ }
     ensures { λ r. ⌜ Plain (now (text .entry)) (λ p. regLine p (now (line .entry))) q r ⌝ }
 {
-    if fields::has_fields(line, 3) & !q.begun {
+    if fields::has_fields(line, 3) & (q.labels.count + q.rows == 0) {
         return add_register(
             text,
             q,

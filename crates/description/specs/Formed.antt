@@ -10,16 +10,15 @@ use Rattle.characters.specs.Characters.{same}
 use Rattle.fields.specs.Fields.{Line, field}
 use Rattle.characters.specs.Named.{Named}
 use Rattle.code.specs.Formed.{Registers, Accepted, FormedDestination}
-use Rattle.declaration.specs.Rows.{Row, does, goes, rowPieces, Description}
+use Rattle.declaration.specs.Rows.{Row, does, goes, piecesOf, Description}
 use Rattle.text_limits.specs.Limits.{mostRegisters, mostRows, mostLabels, allPieces}
 use Rattle.declaration.specs.Lines.{atWord}
-use Rattle.row.specs.Lines.{isSomewhere}
 use Rattle.description.specs.Description.{hasRun}
 
 -- a row over the registers
 abbrev pub FormedRow : List Named → Row → Type 0
 FormedRow rs (does c d e) =
-    record { condition : Accepted rs c; somewhere : isSomewhere d ≡ true; destination : FormedDestination rs d; value : Accepted rs e }
+    record { condition : Accepted rs c; destination : FormedDestination rs d; value : Accepted rs e }
 FormedRow rs (goes c n) = Accepted rs c
 
 abbrev pub FormedRows : List Named → List Row → Type 0
@@ -35,11 +34,6 @@ Lands (goes c k) n = k ≤ n
 abbrev pub Lower : ℕ → List Row → Type 0
 Lower n [] = Unit {0}
 Lower n (r ∷ more) = record { first : Lands r (length more + n); others : Lower n more }
-
--- the pieces of all rows
-unfoldable pub piecesOf : List Row → ℕ
-piecesOf [] = 0
-piecesOf (r ∷ more) = rowPieces r + piecesOf more
 
 -- "16 registers, 128 rows, .. 1,024 pieces pass"
 pub record Formed (d : Description) : Type 0 where

@@ -21,8 +21,8 @@ use Rattle.code.specs.declared.Cursor.{Cursor}
 use Rattle.code.specs.declared.Part.the-variants.{Fault}
 use Rattle.expression.specs.declared.Place.{Place}
 use Rattle.expression.specs.declared.Place.the-variants.{Register, Bits, Word, Nowhere}
-use Rattle.code.specs.Tree.{Expr, pieces, mostPieces, Destination, toRegister, toPart, toMemory, nowhere}
-use Rattle.code.specs.Readings.{Reading, read, outside}
+use Rattle.code.specs.Tree.{Expr, pieces, mostPieces, toRegister, toPart, toMemory}
+use Rattle.code.specs.Readings.{Reading, read, outside, DestinationReading, leads, astray}
 use Rattle.grammar.specs.Grammar.{level, fuel}
 use Rattle.expression.specs.Expression.{trimmed, ofName, ofAddress, memoryAt, destination}
 use Rattle.code.specs.Met.{Held, Meets}
@@ -32,19 +32,19 @@ use Rattle.expression.proofs.WholeFields.{few-pieces}
 
 -- names
 module _ (s : List ℕ) (r w p : ℕ) where
-  pub to-register : p ≡ length s → ofName s (Whole r w p) ≡ toRegister r w
+  pub to-register : p ≡ length s → ofName s (Whole r w p) ≡ leads (toRegister r w)
   unfolding ofName
   to-register e = rw (eq-eqb p (length s) e, ofName)
 
-  pub not-register : (p ≡ length s → ⊥) → ofName s (Whole r w p) ≡ nowhere
+  pub not-register : (p ≡ length s → ⊥) → ofName s (Whole r w p) ≡ astray
   unfolding ofName
   not-register e = rw (ne-eqb p (length s) e, ofName)
 
-  pub to-part : (a b : ℕ) → p ≡ length s → ofName s (Part r w a b p) ≡ toPart r w a b
+  pub to-part : (a b : ℕ) → p ≡ length s → ofName s (Part r w a b p) ≡ leads (toPart r w a b)
   unfolding ofName
   to-part a b e = rw (eq-eqb p (length s) e, ofName)
 
-  pub not-part : (a b : ℕ) → (p ≡ length s → ⊥) → ofName s (Part r w a b p) ≡ nowhere
+  pub not-part : (a b : ℕ) → (p ≡ length s → ⊥) → ofName s (Part r w a b p) ≡ astray
   unfolding ofName
   not-part a b e = rw (ne-eqb p (length s) e, ofName)
 
@@ -53,11 +53,11 @@ module _ (s : List ℕ) (t : Expr) (p : ℕ) where
   abbrev shut : Bool
   shut = eqb (next s p) squareClose && eqb (skip s p + 1) (length s) && leb (pieces t) mostPieces
 
-  is-address : shut ≡ true → ofAddress s (read t p) ≡ toMemory t
+  is-address : shut ≡ true → ofAddress s (read t p) ≡ leads (toMemory t)
   unfolding ofAddress
   is-address e = rw (e, ofAddress)
 
-  no-address : shut ≡ false → ofAddress s (read t p) ≡ nowhere
+  no-address : shut ≡ false → ofAddress s (read t p) ≡ astray
   unfolding ofAddress
   no-address e = rw (e, ofAddress)
 
@@ -94,12 +94,12 @@ module _ (s : List ℕ) (c from : Cursor) where
   unaddressed u outside w before after few less h = absurd h
 
 -- an address that has a fault
-pub address-fault : (s : List ℕ) (x : Reading) (from : Cursor) (before after : List ℕ) → Meets x Fault from before after → ofAddress s x ≡ nowhere
+pub address-fault : (s : List ℕ) (x : Reading) (from : Cursor) (before after : List ℕ) → Meets x Fault from before after → ofAddress s x ≡ astray
 unfolding ofAddress
 address-fault s x from before after m = ap (ofAddress s) (faulty x from before after m)
 
 -- a destination that is known, from a cursor whose place doesn't count
-pub aimed : (r : Place) (x y : Destination) (s : List ℕ) (from : Cursor) (q : ℕ) (before after : List ℕ) → x ≡ y → Aims r y s (at from q) before after → Aims r x s from before after
+pub aimed : (r : Place) (x y : DestinationReading) (s : List ℕ) (from : Cursor) (q : ℕ) (before after : List ℕ) → x ≡ y → Aims r y s (at from q) before after → Aims r x s from before after
 aimed (Register r w) x y s from q before after e m = (e ∙ m .0, m .1)
 aimed (Bits r w a b) x y s from q before after e m = (e ∙ m .0, m .1)
 aimed (Word c) x y s from q before after e m =
@@ -107,7 +107,7 @@ aimed (Word c) x y s from q before after e m =
 aimed Nowhere x y s from q before after e m = e ∙ m
 
 -- the destination that a name is, which leaves the table as it was
-pub pointed : (r : Place) (x y : Destination) (s : List ℕ) (from : Cursor) (before : List ℕ) → x ≡ y → Points r y → Aims r x s from before before
+pub pointed : (r : Place) (x y : DestinationReading) (s : List ℕ) (from : Cursor) (before : List ℕ) → x ≡ y → Points r y → Aims r x s from before before
 pointed (Register r w) x y s from before e m = (e ∙ m, refl)
 pointed (Bits r w a b) x y s from before e m = (e ∙ m, refl)
 pointed (Word c) x y s from before e m = absurd m
@@ -120,7 +120,7 @@ module _ (rs : List Named) (s : List ℕ) where
     unfolding memoryAt
     opens h = rw (starts, at-mark s end start x squareOpen starts here h, memoryAt)
 
-    pub bare : (x ≡ squareOpen → ⊥) → memoryAt rs s end ≡ nowhere
+    pub bare : (x ≡ squareOpen → ⊥) → memoryAt rs s end ≡ astray
     unfolding memoryAt
     bare h = rw (off-mark s end start x squareOpen starts here h, memoryAt)
 
@@ -138,6 +138,6 @@ module _ (rs : List Named) (s : List ℕ) where
     unfolding destination
     to-name h x i = rw (i, trims, token-is false h, destination)
 
-  pub not-trimmed : trimmed s ≡ false → destination rs s ≡ nowhere
+  pub not-trimmed : trimmed s ≡ false → destination rs s ≡ astray
   unfolding destination
   not-trimmed t = rw (t, destination)

@@ -28,10 +28,10 @@ use Rattle.tokens.specs.Tokens.{roundOpen, roundClose, squareOpen, squareClose,
 use Rattle.bit_parts.specs.References.{referenceAt}
 use Rattle.bit_parts.proofs.Onward.{whole-known, bits-known}
 use Rattle.code.specs.Tree.{Expr, register, bitPart, constant, binary, width, pieces, mostPieces, toPart}
-use Rattle.code.specs.Readings.{Reading, read, outside, limited, ofReference, ofConstant, notOf, closed, largestCount, turned, joined}
+use Rattle.code.specs.Readings.{Reading, read, outside, leads, limited, ofReference, ofConstant, notOf, closed, largestCount, turned, joined}
 use Rattle.grammar.specs.Grammar.{deepest, level, more, operation, operand, worded, negated, enclosed, fuel}
 use Rattle.expression.specs.Expression.{trimmed, whole, expression, ofName, ofAddress, memoryAt, destination}
-use Rattle.code.specs.Formed.{isOf, Formed, Accepted, Reads, FormedDestination}
+use Rattle.code.specs.Formed.{isOf, Formed, Accepted, Reads, FormedDestination, LeadsTo}
 use Rattle.operators.proofs.Rows.{row-is, no-row}
 use Rattle.code.proofs.Formed.{formed-narrow}
 
@@ -185,43 +185,43 @@ module _ (rs : List Named) where
         (λ t. tt)
 
     -- destinations
-    name-formed : (x : Reference) → referenceAt rs s 0 ≡ x → FormedDestination rs (ofName s x)
+    name-formed : (x : Reference) → referenceAt rs s 0 ≡ x → LeadsTo (FormedDestination rs) (ofName s x)
     unfolding ofName
     name-formed (Whole r w p) e =
         let k = whole-known rs s 0 r w p e in
-        by-case (FormedDestination rs) (eqb p (length s)) (λ t. record { listed = k .0; width-is = k .1 }) (λ t. tt)
+        by-case (LeadsTo (FormedDestination rs)) (eqb p (length s)) (λ t. record { listed = k .0; width-is = k .1 }) (λ t. tt)
     name-formed (Part r w a b p) e =
         let k = bits-known rs s 0 r w a b p e in
-        by-case (FormedDestination rs) (eqb p (length s)) (λ t. record { listed = k .0; width-is = k .1; ordered = k .2; below = k .3 }) (λ t. tt)
+        by-case (LeadsTo (FormedDestination rs)) (eqb p (length s)) (λ t. record { listed = k .0; width-is = k .1; ordered = k .2; below = k .3 }) (λ t. tt)
     name-formed Unknown e = tt
 
-    address-formed : (x : Reading) → Good x → FormedDestination rs (ofAddress s x)
+    address-formed : (x : Reading) → Good x → LeadsTo (FormedDestination rs) (ofAddress s x)
     unfolding ofAddress
     address-formed (read t p) h =
-        by-case (FormedDestination rs) (eqb (next s p) squareClose && eqb (skip s p + 1) (length s) && leb (pieces t) mostPieces)
+        by-case (LeadsTo (FormedDestination rs)) (eqb (next s p) squareClose && eqb (skip s p + 1) (length s) && leb (pieces t) mostPieces)
         (λ e. accepted t h (and-right (eqb (next s p) squareClose && eqb (skip s p + 1) (length s)) (leb (pieces t) mostPieces) e))
         (λ e. tt)
     address-formed outside h = tt
 
-    memory-formed : (end : ℕ) → FormedDestination rs (memoryAt rs s end)
+    memory-formed : (end : ℕ) → LeadsTo (FormedDestination rs) (memoryAt rs s end)
     unfolding memoryAt
     memory-formed end =
-        by-case (FormedDestination rs) (eqb (next s end) squareOpen)
+        by-case (LeadsTo (FormedDestination rs)) (eqb (next s end) squareOpen)
         (λ t. address-formed (level (fuel s) rs s 0 weakest (skip s end + 1)) (level-formed (fuel s) 0 weakest (skip s end + 1)))
         (λ t. tt)
 
-    pub destination-formed : FormedDestination rs (destination rs s)
+    pub destination-formed : LeadsTo (FormedDestination rs) (destination rs s)
     unfolding destination
     destination-formed =
-        by-case (FormedDestination rs) (trimmed s)
+        by-case (LeadsTo (FormedDestination rs)) (trimmed s)
         (λ t.
-        by-case (FormedDestination rs) (same (slice s 0 (runEnd class.Word s 0)) memoryToken)
+        by-case (LeadsTo (FormedDestination rs)) (same (slice s 0 (runEnd class.Word s 0)) memoryToken)
         (λ u. memory-formed (runEnd class.Word s 0))
         (λ u. name-formed (referenceAt rs s 0) refl))
         (λ t. tt)
 
     -- the bits of a part stand in their order, within the register
-    pub ordered : (r w a b : ℕ) → destination rs s ≡ toPart r w a b → (a ≤ b) × (b < w)
+    pub ordered : (r w a b : ℕ) → destination rs s ≡ leads (toPart r w a b) → (a ≤ b) × (b < w)
     ordered r w a b e =
-        let k = subst (FormedDestination rs) e destination-formed in
+        let k = subst (LeadsTo (FormedDestination rs)) e destination-formed in
         (k .ordered, k .below)

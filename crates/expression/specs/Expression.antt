@@ -15,8 +15,8 @@ use Rattle.bit_parts.specs.declared.Reference.the-variants.{Whole, Part, Unknow
 use Rattle.operators.specs.Operators.{weakest}
 use Rattle.tokens.specs.Tokens.{squareOpen, squareClose, memoryToken, skip, next, slice}
 use Rattle.bit_parts.specs.References.{referenceAt}
-use Rattle.code.specs.Tree.{pieces, mostPieces, Destination, toRegister, toPart, toMemory, nowhere}
-use Rattle.code.specs.Readings.{Reading, read, outside}
+use Rattle.code.specs.Tree.{pieces, mostPieces, toRegister, toPart, toMemory}
+use Rattle.code.specs.Readings.{Reading, read, outside, DestinationReading, leads, astray}
 use Rattle.grammar.specs.Grammar.{level, fuel}
 
 -- "not at its ends"
@@ -31,24 +31,24 @@ whole s outside = outside
 unfoldable pub expression : List Named → List ℕ → Reading
 expression rs s = elim (trimmed s) [ true ↦ whole s (level (fuel s) rs s 0 weakest 0) | false ↦ outside ]
 
-unfoldable pub ofName : List ℕ → Reference → Destination
-ofName s (Whole r w p) = elim (eqb p (length s)) [ true ↦ toRegister r w | false ↦ nowhere ]
-ofName s (Part r w a b p) = elim (eqb p (length s)) [ true ↦ toPart r w a b | false ↦ nowhere ]
-ofName s Unknown = nowhere
+unfoldable pub ofName : List ℕ → Reference → DestinationReading
+ofName s (Whole r w p) = elim (eqb p (length s)) [ true ↦ leads (toRegister r w) | false ↦ astray ]
+ofName s (Part r w a b p) = elim (eqb p (length s)) [ true ↦ leads (toPart r w a b) | false ↦ astray ]
+ofName s Unknown = astray
 
 -- "a destination's own bracket isn't counted"; "a memory destination's address being one of its own"
-unfoldable pub ofAddress : List ℕ → Reading → Destination
+unfoldable pub ofAddress : List ℕ → Reading → DestinationReading
 ofAddress s (read t p) =
-    elim (eqb (next s p) squareClose && eqb (skip s p + 1) (length s) && leb (pieces t) mostPieces) [ true ↦ toMemory t | false ↦ nowhere ]
-ofAddress s outside = nowhere
+    elim (eqb (next s p) squareClose && eqb (skip s p + 1) (length s) && leb (pieces t) mostPieces) [ true ↦ leads (toMemory t) | false ↦ astray ]
+ofAddress s outside = astray
 
 -- `M[expression]`, from the place after `M` on
-unfoldable pub memoryAt : List Named → List ℕ → ℕ → Destination
+unfoldable pub memoryAt : List Named → List ℕ → ℕ → DestinationReading
 memoryAt rs s end =
-    elim (eqb (next s end) squareOpen) [ true ↦ ofAddress s (level (fuel s) rs s 0 weakest (skip s end + 1)) | false ↦ nowhere ]
+    elim (eqb (next s end) squareOpen) [ true ↦ ofAddress s (level (fuel s) rs s 0 weakest (skip s end + 1)) | false ↦ astray ]
 
 -- a field that is a destination
-unfoldable pub destination : List Named → List ℕ → Destination
+unfoldable pub destination : List Named → List ℕ → DestinationReading
 destination rs s =
     elim (trimmed s) [
       | true ↦
@@ -56,5 +56,5 @@ destination rs s =
             | true ↦ memoryAt rs s (runEnd Word s 0)
             | false ↦ ofName s (referenceAt rs s 0)
           ]
-      | false ↦ nowhere
+      | false ↦ astray
     ]

@@ -10,8 +10,8 @@ use Rattle.code.specs.declared.Part.{Part}
 use Rattle.code.specs.declared.Part.the-variants.{Found, Fault}
 use Rattle.expression.specs.declared.Place.{Place}
 use Rattle.expression.specs.declared.Place.the-variants.{Register, Bits, Word, Nowhere}
-use Rattle.code.specs.Tree.{Expr, pieces, Destination, toRegister, toPart, toMemory, nowhere}
-use Rattle.code.specs.Readings.{Reading}
+use Rattle.code.specs.Tree.{Expr, pieces, toRegister, toPart, toMemory}
+use Rattle.code.specs.Readings.{Reading, DestinationReading, leads, astray}
 use Rattle.expression.specs.Expression.{whole, ofAddress}
 use Rattle.code.specs.Code.{codeOf}
 use Rattle.code.specs.Met.{Meets}
@@ -27,9 +27,9 @@ pub record Whole (s : List ℕ) (c : Cursor) (w : ℕ) (n : ℕ) (r : Part) : Ty
   pub is : Same c w r
 
 -- a memory destination's address: its tree, with its pieces and words counted, and its words in the table
-pub record Address (x : Destination) (s : List ℕ) (c from : Cursor) (before after : List ℕ) : Type 0 where
+pub record Address (x : DestinationReading) (s : List ℕ) (c from : Cursor) (before after : List ℕ) : Type 0 where
   pub tree : Expr
-  pub is : x ≡ toMemory tree
+  pub is : x ≡ leads (toMemory tree)
   pub pieces-are : c .pieces ≡ from .pieces + pieces tree
   pub words-are : 4 * c .words ≡ 4 * from .words + length (codeOf tree)
   pub code-is : after ≡ sets before (4 * from .words) (codeOf tree)
@@ -37,18 +37,18 @@ pub record Address (x : Destination) (s : List ℕ) (c from : Cursor) (before af
   pub pieces-few : c .pieces ≤ from .pieces + length s
 
 -- the code's answer to a destination
-abbrev pub Aims : Place → Destination → List ℕ → Cursor → List ℕ → List ℕ → Type 0
-Aims (Register r w) x s from before after = (x ≡ toRegister r w) × (after ≡ before)
-Aims (Bits r w a b) x s from before after = (x ≡ toPart r w a b) × (after ≡ before)
+abbrev pub Aims : Place → DestinationReading → List ℕ → Cursor → List ℕ → List ℕ → Type 0
+Aims (Register r w) x s from before after = (x ≡ leads (toRegister r w)) × (after ≡ before)
+Aims (Bits r w a b) x s from before after = (x ≡ leads (toPart r w a b)) × (after ≡ before)
 Aims (Word c) x s from before after = Address x s c from before after
-Aims Nowhere x s from before after = x ≡ nowhere
+Aims Nowhere x s from before after = x ≡ astray
 
 -- the code's answer to a name, which needs no word in the table
-abbrev pub Points : Place → Destination → Type 0
-Points (Register r w) x = x ≡ toRegister r w
-Points (Bits r w a b) x = x ≡ toPart r w a b
+abbrev pub Points : Place → DestinationReading → Type 0
+Points (Register r w) x = x ≡ leads (toRegister r w)
+Points (Bits r w a b) x = x ≡ leads (toPart r w a b)
 Points (Word c) x = ⊥
-Points Nowhere x = x ≡ nowhere
+Points Nowhere x = x ≡ astray
 
 -- an address that was read, whatever it is
 abbrev pub Addressed : List ℕ → Cursor → Place → Cursor → Type 0

@@ -15,19 +15,20 @@ use Rattle.bit_parts.specs.References.{secondBit, firstBit, spanAt, partOf, reg
 use Rattle.code.specs.Readings.{limited, ofReference, ofConstant, notOf, closed, turned, joined}
 use Rattle.grammar.specs.Grammar.{level}
 use Rattle.expression.specs.Expression.{whole, expression, ofName, ofAddress, memoryAt, destination}
+use Rattle.declaration.specs.Rows.{piecesOf}
 use Rattle.declaration.specs.Lines.{addRegister, regLine, addLabel, atLine}
-use Rattle.targets.specs.Targets.{passes}
-use Rattle.row.specs.Lines.{addRow, doRow, withRow, doLine, goRow, goLine}
-use Rattle.description.specs.Description.{accepted, finished, readLines, readText}
-use Rattle.line.specs.Line.{readLine}
+use Rattle.targets.specs.Targets.{passes, firstMissing}
+use Rattle.row.specs.Lines.{addRow, addDo, doLine, addGo, goLine}
+use Rattle.description.specs.Description.{accepted, finished, readLines, readBelow, readAll, readText}
+use Rattle.description.specs.Line.{byWord, readLine}
 use Rattle.pdp8_rows.specs.Text.{shippedText}
 use Rattle.pdp8_rows.specs.Shipped.{mostShippedRows, shipped}
 
 pub shipped-accepted : readText shippedText ≡ accepted shipped
 unfolding run runEnd same numberAt decimalAt markedAt shortestFrom ofDecimal constantAt lines field hasFields isName find findIn operatorRow tokenEnd
     operatorAt operatorEnd secondBit firstBit spanAt partOf registerAt referenceAt limited ofReference ofConstant notOf closed turned joined level whole
-    expression ofName ofAddress memoryAt destination addRegister regLine addRow doRow withRow doLine passes goRow goLine addLabel atLine readLine finished
-    readLines readText shippedText
+    expression ofName ofAddress memoryAt destination addRegister regLine piecesOf addRow addDo doLine passes addGo goLine addLabel atLine byWord readLine firstMissing
+    finished readLines readBelow readAll readText shippedText
 shipped-accepted = refl
 
 pub shipped-short : length (shipped .rows) ≤ mostShippedRows

@@ -19,7 +19,7 @@ use Rattle.laws.proofs.Tests.{by-test, not-so}
 use Rattle.code.specs.declared.Cursor.{Cursor}
 use Rattle.code.specs.declared.Part.the-variants.{Found}
 use Rattle.code.specs.Tree.{Expr}
-use Rattle.code.specs.Readings.{Reading, read, outside}
+use Rattle.code.specs.Readings.{Reading, read, outside, DestinationReading, leads, astray}
 use Rattle.expression.specs.Expression.{expression, destination}
 use Rattle.code.specs.Met.{Held, Meets}
 use Rattle.declaration.specs.declared.faults.Fault.{Fault}
@@ -29,16 +29,16 @@ use Rattle.declaration.specs.declared.lines.Status.{Status}
 use Rattle.declaration.specs.declared.lines.Status.the-variants.{Goes, Refused}
 use Rattle.declaration.specs.declared.lines.Step as taken
 use Rattle.targets.specs.declared.Target.{Target}
-use Rattle.declaration.specs.Rows.{Row, goes, rowPieces}
+use Rattle.declaration.specs.Rows.{Row, goes, rowPieces, piecesOf}
 use Rattle.text_limits.specs.Limits.{mostRows, allPieces}
-use Rattle.declaration.specs.Lines.{Progress, Step, refused, next}
-use Rattle.targets.specs.Targets.{passes}
+use Rattle.declaration.specs.Lines.{Progress, withRow, Step, refused, next}
+use Rattle.targets.specs.Targets.{passes, isMissing}
 use Rattle.declaration.specs.Stored.{progressOf, Within, Plain}
 use Rattle.row.specs.declared.actions.RowRead.{RowRead}
-use Rattle.row.specs.Lines.{addRow, RowReading, formed, unformed, doRow, withRow, doLine, rowsPassed, missingAt, goRow, goLine}
+use Rattle.row.specs.Lines.{addRow, addDo, doLine, rowsPassed, addGo, goLine}
 use Rattle.row_table.specs.RowTable.{rowCells}
 use Rattle.row.specs.Cells.{goCells}
-use Rattle.row.specs.Stored.{Tables, Comes, Takes, hasRoom, oneMore, Put, Forming, Jumps, Assigns, Rows}
+use Rattle.row.specs.Stored.{Tables, Comes, Takes, firstGone, hasRoom, oneMore, Put, RowReading, formed, unformed, doRow, takeRow, Forming, Jumps, Assigns, Rows}
 use Rattle.row.proofs.Tables.{tables-more, row-code-pieces}
 
 abbrev isGoes : Status → Bool
@@ -49,58 +49,58 @@ not-goes : (f : Fault) {P : Type 0} → Refused f ≡ Goes → P
 not-goes f e = absurd (mathlib.Core.Bool.false≢true (ap isGoes e))
 
 -- a refused line leaves nothing to say of the tables
-pub takes-refused : (text : List ℕ) (g : Progress → Step) (q : code.Progress) (f : Fault) (r : taken.Step) {code₁ code₂ table₁ table₂ : List ℕ}
+pub takes-refused : (text : List ℕ) (g : Progress → Step) (gone : ℕ) (q : code.Progress) (f : Fault) (r : taken.Step) {code₁ code₂ table₁ table₂ : List ℕ}
     → r ≡ record { progress = q; status = Refused f } → ((rs : List Row) → g (progressOf text q rs) ≡ refused f) → Within q
-    → Takes text g q r code₁ code₂ table₁ table₂
-takes-refused text g q f r {code₁} {code₂} {table₁} {table₂} e is h =
-    subst (λ (x : taken.Step). Takes text g q x code₁ code₂ table₁ table₂) (sym e)
-    (record { comes = λ rs code₀ table₀ t. record { rows = rs; is = is rs; holds = λ k. not-goes f k }; within = h })
+    → Takes text g gone q r code₁ code₂ table₁ table₂
+takes-refused text g gone q f r {code₁} {code₂} {table₁} {table₂} e is h =
+    subst (λ (x : taken.Step). Takes text g gone q x code₁ code₂ table₁ table₂) (sym e)
+    (record { comes = λ rs code₀ table₀ t. record { rows = rs; is = is rs; holds = λ k. not-goes f k }; missing-is = λ k. not-goes f k; within = h })
 
 -- a line whose definition says the same
-pub takes-as : (text : List ℕ) (f g : Progress → Step) (q : code.Progress) (r : taken.Step) {code₁ code₂ table₁ table₂ : List ℕ}
-    → ((rs : List Row) → f (progressOf text q rs) ≡ g (progressOf text q rs)) → Takes text g q r code₁ code₂ table₁ table₂
-    → Takes text f q r code₁ code₂ table₁ table₂
-takes-as text f g q r {code₁} {code₂} {table₁} {table₂} e p =
+pub takes-as : (text : List ℕ) (f g : Progress → Step) (gone gone′ : ℕ) (q : code.Progress) (r : taken.Step) {code₁ code₂ table₁ table₂ : List ℕ}
+    → ((rs : List Row) → f (progressOf text q rs) ≡ g (progressOf text q rs)) → gone′ ≡ gone → Takes text g gone q r code₁ code₂ table₁ table₂
+    → Takes text f gone′ q r code₁ code₂ table₁ table₂
+takes-as text f g gone gone′ q r {code₁} {code₂} {table₁} {table₂} e i p =
     record {
       comes = λ rs code₀ table₀ t.
           let k = p .comes rs code₀ table₀ t in
           record { rows = k .rows; is = e rs ∙ k .is; holds = k .holds };
+      missing-is = λ k. p .missing-is k ∙ sym i;
       within = p .within;
     }
 
 -- a line that adds no row leaves the tables
 pub takes-plain : (text : List ℕ) (g : Progress → Step) (q : code.Progress) (r : taken.Step) {code₁ table₁ : List ℕ} → Plain text g q r
-    → Takes text g q r code₁ code₁ table₁ table₁
+    → Takes text g (q .missing) q r code₁ code₁ table₁ table₁
 takes-plain text g q r {code₁} {table₁} p =
     record {
       comes = λ rs code₀ table₀ t.
           record {
             rows = rs;
-            is = p .is rs;
+            is = p .is rs (t .rows-are);
             holds = λ k.
                 record {
                   rows-are = p .same-rows ∙ t .rows-are;
+                  pieces-are = p .same-pieces ∙ t .pieces-are;
                   words-are = ap (λ (n : ℕ). 4 * n) (p .same-words) ∙ t .words-are;
                   code-is = t .code-is;
                   table-is = t .table-is;
                 };
           };
+      missing-is = λ k. p .same-missing;
       within = p .within;
     }
 
 -- a row more, where there is room for it
-module _ (p : Progress) (row : Row) (gone : ℕ) where
+module _ (p : Progress) (row : Row) where
   abbrev fits : Bool
-  fits = ltb (length (p .rows)) mostRows && leb (p .pieces + rowPieces row) allPieces
+  fits = ltb (length (p .rows)) mostRows && leb (piecesOf (p .rows) + rowPieces row) allPieces
 
-  abbrev longer : ℕ → Progress
-  longer counted = record { registers = p .registers; labels = p .labels; rows = p .rows ++ (row ∷ []); pieces = counted; begun = true; missing = gone }
-
-  row-added : fits ≡ true → addRow p row gone ≡ next (longer (p .pieces + rowPieces row))
+  row-added : fits ≡ true → addRow p row ≡ next (withRow p row)
   unfolding addRow
   row-added t = rw (t, addRow)
 
-  row-full : fits ≡ false → addRow p row gone ≡ refused Limit
+  row-full : fits ≡ false → addRow p row ≡ refused Limit
   unfolding addRow
   row-full t = rw (t, addRow)
 
@@ -120,21 +120,20 @@ module _ (text : List ℕ) (q : code.Progress) (h : Within q) (row : Row) (cs : 
   abbrev full : taken.Step
   full = record { progress = q; status = Refused Limit }
 
-  row-room : (rs : List Row) {code₀ table₀ : List ℕ} → Tables rs (q .rows) (q .words) code₀ code₁ table₀ table₁ → fits (progressOf text q rs) row gone ≡ room
+  row-room : (rs : List Row) {code₀ table₀ : List ℕ} → Tables rs q code₀ code₁ table₀ table₁ → fits (progressOf text q rs) row ≡ room
   row-room rs t =
-      ap (λ (n : ℕ). ltb n mostRows && leb (q .pieces + rowPieces row) allPieces) (sym (t .rows-are))
+      ap (λ (n : ℕ). ltb n mostRows && leb (piecesOf rs + rowPieces row) allPieces) (sym (t .rows-are))
+      ∙ ap (λ (n : ℕ). ltb (q .rows) mostRows && leb (n + rowPieces row) allPieces) (sym (t .pieces-are))
       ∙ ap (λ (n : ℕ). ltb (q .rows) mostRows && leb n allPieces) (sym (forms .pieces-are))
 
-  added : room ≡ true → (rs : List Row) (code₀ table₀ : List ℕ) → Tables rs (q .rows) (q .words) code₀ code₁ table₀ table₁
-      → Comes text (addRow (progressOf text q rs) row gone) more code₀ code₂ table₀ table₂
+  added : room ≡ true → (rs : List Row) (code₀ table₀ : List ℕ) → Tables rs q code₀ code₁ table₀ table₁
+      → Comes text (addRow (progressOf text q rs) row) more code₀ code₂ table₀ table₂
   added u rs code₀ table₀ t =
       record {
         rows = rs ++ (row ∷ []);
-        is =
-            row-added (progressOf text q rs) row gone (row-room rs t ∙ u)
-            ∙ ap (λ (n : ℕ). next (longer (progressOf text q rs) row gone n)) (sym (forms .pieces-are));
+        is = row-added (progressOf text q rs) row (row-room rs t ∙ u);
         holds = λ k.
-            tables-more rs row t (forms .code-is) (forms .words-are)
+            tables-more rs row t refl (forms .pieces-are) (forms .code-is) (forms .words-are)
             (put .table-is
             ∙ ap (λ (b : Bool). pick b (sets table₁ (rowCells * q .rows) cs) table₁) u
             ∙ ap (sets table₁ (rowCells * q .rows)) (forms .cells-are));
@@ -151,17 +150,18 @@ module _ (text : List ℕ) (q : code.Progress) (h : Within q) (row : Row) (cs : 
         few-pieces = leb-true (end .pieces) allPieces (and-right (ltb (q .rows) mostRows) (leb (end .pieces) allPieces) u);
       }
 
-  takes-row : Takes text (λ (p : Progress). addRow p row gone) q r code₁ code₂ table₁ table₂
+  takes-row : Takes text (λ (p : Progress). addRow p row) gone q r code₁ code₂ table₁ table₂
   takes-row =
       by-test room
       (λ u.
-      subst (λ (x : taken.Step). Takes text (λ (p : Progress). addRow p row gone) q x code₁ code₂ table₁ table₂) (sym (put .is ∙ ap (λ (b : Bool). pick b more full) u))
-      (record { comes = λ rs code₀ table₀ t. added u rs code₀ table₀ t; within = within-more u }))
+      subst (λ (x : taken.Step). Takes text (λ (p : Progress). addRow p row) gone q x code₁ code₂ table₁ table₂) (sym (put .is ∙ ap (λ (b : Bool). pick b more full) u))
+      (record { comes = λ rs code₀ table₀ t. added u rs code₀ table₀ t; missing-is = λ k. refl; within = within-more u }))
       (λ u.
-      subst (λ (x : taken.Step). Takes text (λ (p : Progress). addRow p row gone) q x code₁ code₂ table₁ table₂) (sym (put .is ∙ ap (λ (b : Bool). pick b more full) u))
+      subst (λ (x : taken.Step). Takes text (λ (p : Progress). addRow p row) gone q x code₁ code₂ table₁ table₂) (sym (put .is ∙ ap (λ (b : Bool). pick b more full) u))
       (record {
         comes = λ rs code₀ table₀ t.
-            record { rows = rs; is = row-full (progressOf text q rs) row gone (row-room rs t ∙ u); holds = λ k. not-goes Limit k };
+            record { rows = rs; is = row-full (progressOf text q rs) row (row-room rs t ∙ u); holds = λ k. not-goes Limit k };
+        missing-is = λ k. not-goes Limit k;
         within = h;
       }))
 
@@ -181,29 +181,29 @@ abbrev targetOf : List ℕ → List ℕ → Target
 targetOf line below = passes (field 2 line) (lines below)
 
 -- `go` lines
-module _ (p : Progress) (n : ℕ) (s below : List ℕ) where
+module _ (p : Progress) (s below : List ℕ) where
   abbrev target : Target
   target = targetOf s below
 
   abbrev condition : Reading
   condition = expression (p .registers) (field 1 s)
 
-  pub go-malformed : hasFields 3 s ≡ false → goLine p n (lines below) s ≡ refused Line
+  pub go-malformed : hasFields 3 s ≡ false → goLine p (lines below) s ≡ refused Line
   unfolding goLine
   go-malformed t = rw (t, goLine)
 
   go-taken : (c : Expr) (x : ℕ) → hasFields 3 s ≡ true → condition ≡ read c x → isName (field 2 s) ≡ true
-      → goLine p n (lines below) s ≡ addRow p (goes c (rowsPassed target)) (missingAt target n (p .missing))
-  unfolding goLine goRow
-  go-taken c x t e u = rw (t, e, u, goRow, goLine)
+      → goLine p (lines below) s ≡ addRow p (goes c (rowsPassed target))
+  unfolding goLine addGo
+  go-taken c x t e u = rw (t, e, u, addGo, goLine)
 
-  go-unnamed : (c : Expr) (x : ℕ) → hasFields 3 s ≡ true → condition ≡ read c x → isName (field 2 s) ≡ false → goLine p n (lines below) s ≡ refused Label
-  unfolding goLine goRow
-  go-unnamed c x t e u = rw (t, e, u, goRow, goLine)
+  go-unnamed : (c : Expr) (x : ℕ) → hasFields 3 s ≡ true → condition ≡ read c x → isName (field 2 s) ≡ false → goLine p (lines below) s ≡ refused Label
+  unfolding goLine addGo
+  go-unnamed c x t e u = rw (t, e, u, addGo, goLine)
 
-  pub go-unread : hasFields 3 s ≡ true → condition ≡ outside → goLine p n (lines below) s ≡ refused Expression
-  unfolding goLine goRow
-  go-unread t e = rw (t, e, goRow, goLine)
+  pub go-unread : hasFields 3 s ≡ true → condition ≡ outside → goLine p (lines below) s ≡ refused Expression
+  unfolding goLine addGo
+  go-unread t e = rw (t, e, addGo, goLine)
 
 -- the cells of a `go` are those of its row
 go-forms : (q : code.Progress) (c : Expr) (x : ℕ) (end : Cursor) (w passed : ℕ) (now after : List ℕ) → Held c x end w (before q) now after
@@ -229,33 +229,33 @@ module _ (text : List ℕ) (q : code.Progress) (h : Within q) (n : ℕ) (line be
   passed = rowsPassed (targetOf line below)
 
   abbrev gone : ℕ
-  gone = missingAt (targetOf line below) n (q .missing)
+  gone = firstGone (isMissing (targetOf line below)) n (q .missing)
 
   pub go-jumps : (r : taken.Step) {table₁ table₂ : List ℕ} → Jumps q n (field 2 line) (lines below) end r table₁ table₂
-      → Takes text (λ (p : Progress). goLine p n (lines below) line) q r code₁ code₂ table₁ table₂
+      → Takes text (λ (p : Progress). goLine p (lines below) line) gone q r code₁ code₂ table₁ table₂
   go-jumps r j =
       by-test (isName (field 2 line))
       (λ u.
-      takes-as text (λ (p : Progress). goLine p n (lines below) line) (λ (p : Progress). addRow p (goes (found .tree) passed) gone) q r
-      (λ rs. go-taken (progressOf text q rs) n line below (found .tree) (found .place) fields condition-is u)
+      takes-as text (λ (p : Progress). goLine p (lines below) line) (λ (p : Progress). addRow p (goes (found .tree) passed)) gone gone q r
+      (λ rs. go-taken (progressOf text q rs) line below (found .tree) (found .place) fields condition-is u) refl
       (takes-row text q h (goes (found .tree) passed) (goCells (q .words) (end .words) passed) end gone r
       (go-forms q (found .tree) (found .place) end w passed code₁ code₂ (found .held)) (j .named u)))
       (λ u.
-      takes-refused text (λ (p : Progress). goLine p n (lines below) line) q Label r (j .nameless u)
-      (λ rs. go-unnamed (progressOf text q rs) n line below (found .tree) (found .place) fields condition-is u)
+      takes-refused text (λ (p : Progress). goLine p (lines below) line) gone q Label r (j .nameless u)
+      (λ rs. go-unnamed (progressOf text q rs) line below (found .tree) (found .place) fields condition-is u)
       h)
 
 -- a `go` by the label that the code holds
 module _ (q : code.Progress) (n : ℕ) (label held : List ℕ) (below : List text.Line) (second : held ≡ label) (end : Cursor) (r : taken.Step)
     {table₁ table₂ : List ℕ} where
-  pub jumps : isName held ≡ true → (t : Target) → t ≡ passes held below → (passed gone : ℕ) → passed ≡ rowsPassed t → gone ≡ missingAt t n (q .missing)
+  pub jumps : isName held ≡ true → (t : Target) → t ≡ passes held below → (passed gone : ℕ) → passed ≡ rowsPassed t → gone ≡ firstGone (isMissing t) n (q .missing)
       → (cs : List ℕ) → cs ≡ goCells (q .words) (end .words) passed → Put q cs end gone r table₁ table₂ → Jumps q n label below end r table₁ table₂
   jumps named t there passed gone i j cs e put =
       let there′ = there ∙ ap (λ (l : List ℕ). passes l below) second in
       record {
         named = λ u.
             subst (λ (m : ℕ). Put q (goCells (q .words) (end .words) (rowsPassed (passes label below))) end m r table₁ table₂)
-            (j ∙ ap (λ (z : Target). missingAt z n (q .missing)) there′)
+            (j ∙ ap (λ (z : Target). firstGone (isMissing z) n (q .missing)) there′)
             (subst (λ (c : List ℕ). Put q c end gone r table₁ table₂) (e ∙ ap (goCells (q .words) (end .words)) (i ∙ ap rowsPassed there′)) put);
         nameless = λ u. not-so (isName label) (ap isName (sym second) ∙ named) u;
       }
@@ -265,6 +265,13 @@ module _ (q : code.Progress) (n : ℕ) (label held : List ℕ) (below : List tex
       record { named = λ u. not-so (isName label) u (ap isName (sym second) ∙ named); nameless = λ u. e }
 
 -- `do` lines
+do-row : (p : Progress) (c : Reading) (d : DestinationReading) (e : Reading) → addDo p c d e ≡ takeRow p (doRow c d e)
+unfolding addDo doRow
+do-row p (read c x) (leads d) (read e y) = refl
+do-row p (read c x) (leads d) outside = refl
+do-row p (read c x) astray e = refl
+do-row p outside d e = refl
+
 module _ (p : Progress) (s : List ℕ) where
   abbrev reading : RowReading
   reading = doRow (expression (p .registers) (field 1 s)) (destination (p .registers) (field 2 s)) (expression (p .registers) (field 3 s))
@@ -273,26 +280,30 @@ module _ (p : Progress) (s : List ℕ) where
   unfolding doLine
   do-malformed t = rw (t, doLine)
 
-  do-taken : (row : Row) → hasFields 4 s ≡ true → reading ≡ formed row → doLine p s ≡ addRow p row (p .missing)
-  unfolding doLine withRow
-  do-taken row t e = rw (t, e, withRow, doLine)
+  do-read : hasFields 4 s ≡ true → doLine p s ≡ takeRow p reading
+  unfolding doLine
+  do-read t =
+      rw (t, doLine)
+      (do-row p (expression (p .registers) (field 1 s)) (destination (p .registers) (field 2 s)) (expression (p .registers) (field 3 s)))
+
+  do-taken : (row : Row) → hasFields 4 s ≡ true → reading ≡ formed row → doLine p s ≡ addRow p row
+  do-taken row t e = do-read t ∙ ap (takeRow p) e
 
   do-unread : hasFields 4 s ≡ true → reading ≡ unformed → doLine p s ≡ refused Expression
-  unfolding doLine withRow
-  do-unread t e = rw (t, e, withRow, doLine)
+  do-unread t e = do-read t ∙ ap (takeRow p) e
 
 -- a `do` line: the row that was read, if one was
 pub do-assigned : (text : List ℕ) (q : code.Progress) → Within q → (line : List ℕ) → hasFields 4 line ≡ true
     → (x : RowRead) (r : taken.Step) {code₁ code₂ table₁ table₂ : List ℕ}
     → Rows (entries text (q .registers)) line (before q) x code₁ code₂ → Assigns q x r table₁ table₂
-    → Takes text (λ (p : Progress). doLine p line) q r code₁ code₂ table₁ table₂
+    → Takes text (λ (p : Progress). doLine p line) (q .missing) q r code₁ code₂ table₁ table₂
 do-assigned text q h line fields x r rows a =
     by-test (x .found)
     (λ u.
-    takes-as text (λ (p : Progress). doLine p line) (λ (p : Progress). addRow p (rows .forms u .row) (q .missing)) q r
-    (λ rs. do-taken (progressOf text q rs) line (rows .forms u .row) fields (rows .forms u .is))
+    takes-as text (λ (p : Progress). doLine p line) (λ (p : Progress). addRow p (rows .forms u .row)) (q .missing) (q .missing) q r
+    (λ rs. do-taken (progressOf text q rs) line (rows .forms u .row) fields (rows .forms u .is)) refl
     (takes-row text q h (rows .forms u .row) (x .cells) (x .end) (q .missing) r (rows .forms u .forms) (a .added u)))
     (λ u.
-    takes-refused text (λ (p : Progress). doLine p line) q Expression r (a .lost u)
+    takes-refused text (λ (p : Progress). doLine p line) (q .missing) q Expression r (a .lost u)
     (λ rs. do-unread (progressOf text q rs) line fields (rows .lacks u))
     h)

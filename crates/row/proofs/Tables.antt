@@ -8,10 +8,11 @@ use native.Mathlib.Omega.{arith}
 use lib.ListN.{length, length-append}
 use lib.Seq.{sets}
 use Rattle.code.specs.Code.{codeOf}
-use Rattle.code.specs.Tree.{Destination, toRegister, toPart, toMemory, nowhere}
+use Rattle.code.specs.Tree.{Destination, toRegister, toPart, toMemory}
 use Rattle.laws.proofs.Lists.{sets-behind}
 use Rattle.code.proofs.Pieces.{code-pieces}
-use Rattle.declaration.specs.Rows.{Row, does, goes, rowPieces, addressPieces}
+use Rattle.declaration.specs.Rows.{Row, does, goes, rowPieces, piecesOf, addressPieces}
+use Rattle.declaration.specs.declared.lines.Progress.{Progress}
 use Rattle.row_table.specs.RowTable.{rowCells}
 use Rattle.row.specs.Cells.{addressCode, rowCode, code, cellsOf, cells}
 use Rattle.row.specs.Stored.{Tables}
@@ -25,7 +26,6 @@ row-code-pieces (does c d e) =
     address-pieces (toRegister r w) = omega arith
     address-pieces (toPart r w a b) = omega arith
     address-pieces (toMemory t) = code-pieces t
-    address-pieces nowhere = omega arith
 row-code-pieces (goes c n) = code-pieces c
 
 -- a row behind the others
@@ -52,26 +52,33 @@ cells-length [] at = refl
 cells-length (r ∷ rs) at =
     omega (arith, length-append (cellsOf at r) (cells (at + length (rowCode r)) rs), row-length at r, cells-length rs (at + length (rowCode r)))
 
+pub pieces-snoc : (rs : List Row) (row : Row) → piecesOf (rs ++ (row ∷ [])) ≡ piecesOf rs + rowPieces row
+unfolding piecesOf
+pieces-snoc [] row = omega arith
+pieces-snoc (r ∷ rs) row = omega (arith, pieces-snoc rs row)
+
 -- the tables with a row more
-module _ (rs : List Row) (row : Row) {rows words : ℕ} {code₀ code₁ table₀ table₁ : List ℕ} (t : Tables rs rows words code₀ code₁ table₀ table₁) where
-  cells-more : cells 0 (rs ++ (row ∷ [])) ≡ cells 0 rs ++ cellsOf (4 * words) row
+module _ (rs : List Row) (row : Row) {q : Progress} {code₀ code₁ table₀ table₁ : List ℕ} (t : Tables rs q code₀ code₁ table₀ table₁) where
+  cells-more : cells 0 (rs ++ (row ∷ [])) ≡ cells 0 rs ++ cellsOf (4 * q .words) row
   cells-more = cells-snoc rs row 0 ∙ ap (λ (k : ℕ). cells 0 rs ++ cellsOf k row) (zero-add (length (code rs)) ∙ sym (t .words-are))
 
-  pub tables-more : {words′ : ℕ} {code₂ table₂ : List ℕ} → code₂ ≡ sets code₁ (4 * words) (rowCode row) → 4 * words′ ≡ 4 * words + length (rowCode row)
-      → table₂ ≡ sets table₁ (rowCells * rows) (cellsOf (4 * words) row) → Tables (rs ++ (row ∷ [])) (rows + 1) words′ code₀ code₂ table₀ table₂
-  tables-more {words′} {code₂} {table₂} e f g =
+  pub tables-more : {q′ : Progress} {code₂ table₂ : List ℕ} → q′ .rows ≡ q .rows + 1 → q′ .pieces ≡ q .pieces + rowPieces row
+      → code₂ ≡ sets code₁ (4 * q .words) (rowCode row) → 4 * q′ .words ≡ 4 * q .words + length (rowCode row)
+      → table₂ ≡ sets table₁ (rowCells * q .rows) (cellsOf (4 * q .words) row) → Tables (rs ++ (row ∷ [])) q′ code₀ code₂ table₀ table₂
+  tables-more {q′} {code₂} {table₂} one counted e f g =
       record {
-        rows-are = omega (arith, length-append rs (row ∷ []), t .rows-are);
+        rows-are = omega (arith, length-append rs (row ∷ []), t .rows-are, one);
+        pieces-are = omega (arith, pieces-snoc rs row, t .pieces-are, counted);
         words-are = omega (arith, ap length (code-snoc rs row), length-append (code rs) (rowCode row), t .words-are, f);
         code-is =
             e
-            ∙ ap (λ (l : List ℕ). sets l (4 * words) (rowCode row)) (t .code-is)
-            ∙ sets-behind code₀ 0 (4 * words) (code rs) (rowCode row) (t .words-are ∙ sym (zero-add (length (code rs))))
+            ∙ ap (λ (l : List ℕ). sets l (4 * q .words) (rowCode row)) (t .code-is)
+            ∙ sets-behind code₀ 0 (4 * q .words) (code rs) (rowCode row) (t .words-are ∙ sym (zero-add (length (code rs))))
             ∙ ap (sets code₀ 0) (sym (code-snoc rs row));
         table-is =
             g
-            ∙ ap (λ (l : List ℕ). sets l (rowCells * rows) (cellsOf (4 * words) row)) (t .table-is)
-            ∙ sets-behind table₀ 0 (rowCells * rows) (cells 0 rs) (cellsOf (4 * words) row)
+            ∙ ap (λ (l : List ℕ). sets l (rowCells * q .rows) (cellsOf (4 * q .words) row)) (t .table-is)
+            ∙ sets-behind table₀ 0 (rowCells * q .rows) (cells 0 rs) (cellsOf (4 * q .words) row)
             (ap (λ (k : ℕ). rowCells * k) (t .rows-are) ∙ sym (cells-length rs 0) ∙ sym (zero-add (length (cells 0 rs))))
             ∙ ap (sets table₀ 0) (sym cells-more);
       }

@@ -2,85 +2,50 @@
 -- "within one, lower numbers first, left field first"
 -- Assumes nothing.
 use Prim.Native.Nat.{ℕ, _+_}
-use mathlib.Core.Bool.{Bool, true, false, _&&_}
-use mathlib.Core.List.{List, [], _∷_, _++_}
-use lib.Dec.{eqb, leb, ltb}
+use mathlib.Core.Bool.{_&&_}
+use mathlib.Core.List.{List}
+use lib.Dec.{leb, ltb}
 use lib.ListN.{length}
 use Rattle.fields.specs.Fields as text
 use Rattle.fields.specs.Fields.{field, hasFields}
 use Rattle.names.specs.Names.{isName}
-use Rattle.code.specs.Readings.{Reading, read, outside}
-use Rattle.code.specs.Tree.{Destination, toRegister, toPart, toMemory, nowhere}
+use Rattle.code.specs.Readings.{Reading, read, outside, DestinationReading, leads, astray}
 use Rattle.expression.specs.Expression.{expression, destination}
 use Rattle.declaration.specs.declared.faults.Fault.the-variants.{Line, Expression, Label, Limit}
 use Rattle.targets.specs.declared.Target.{Target}
 use Rattle.targets.specs.declared.Target.the-variants.{Passes, Missing}
-use Rattle.declaration.specs.Rows.{Row, does, goes, rowPieces}
+use Rattle.declaration.specs.Rows.{Row, does, goes, rowPieces, piecesOf}
 use Rattle.text_limits.specs.Limits.{mostRows, allPieces}
-use Rattle.declaration.specs.Lines.{Progress, Step, refused, next}
+use Rattle.declaration.specs.Lines.{Progress, withRow, Step, refused, next, kept}
 use Rattle.targets.specs.Targets.{passes}
 
 -- "the .. 129th row .. or 1,025th piece"
-unfoldable pub addRow : Progress → Row → ℕ → Step
-addRow p r gone =
-    elim (ltb (length (p .rows)) mostRows && leb (p .pieces + rowPieces r) allPieces) [
-      | true ↦
-          next (record {
-            registers = p .registers;
-            labels = p .labels;
-            rows = p .rows ++ (r ∷ []);
-            pieces = p .pieces + rowPieces r;
-            begun = true;
-            missing = gone;
-          })
-      | false ↦ refused Limit
-    ]
+unfoldable pub addRow : Progress → Row → Step
+addRow p r = kept (ltb (length (p .rows)) mostRows && leb (piecesOf (p .rows) + rowPieces r) allPieces) Limit (next (withRow p r))
 
-abbrev pub isSomewhere : Destination → Bool
-isSomewhere (toRegister r w) = true
-isSomewhere (toPart r w a b) = true
-isSomewhere (toMemory t) = true
-isSomewhere nowhere = false
+-- "an expression or destination outside the rules, unknown names included"
+unfoldable pub addDo : Progress → Reading → DestinationReading → Reading → Step
+addDo p (read c x) (leads d) (read e y) = addRow p (does c d e)
+addDo p (read c x) (leads d) outside = refused Expression
+addDo p (read c x) astray e = refused Expression
+addDo p outside d e = refused Expression
 
--- a row, or an "expression or destination outside the rules, unknown names included"
-pub data RowReading : Type 0 where
-  formed : Row → RowReading
-  unformed : RowReading
-
-unfoldable pub doRow : Reading → Destination → Reading → RowReading
-doRow (read c x) d (read e y) = elim (isSomewhere d) [ true ↦ formed (does c d e) | false ↦ unformed ]
-doRow (read c x) d outside = unformed
-doRow outside d e = unformed
-
-unfoldable pub withRow : Progress → RowReading → Step
-withRow p (formed r) = addRow p r (p .missing)
-withRow p unformed = refused Expression
-
+-- "`do`, condition, destination, expression"
 unfoldable pub doLine : Progress → List ℕ → Step
 doLine p s =
-    elim (hasFields 4 s) [
-      | true ↦ withRow p (doRow (expression (p .registers) (field 1 s)) (destination (p .registers) (field 2 s)) (expression (p .registers) (field 3 s)))
-      | false ↦ refused Line
-    ]
+    kept (hasFields 4 s) Line
+    (addDo p (expression (p .registers) (field 1 s)) (destination (p .registers) (field 2 s)) (expression (p .registers) (field 3 s)))
 
+-- the rows passed over. A text in which a label is missing is turned down after all lines, whatever stands here for it.
 abbrev pub rowsPassed : Target → ℕ
 rowsPassed (Passes n) = n
 rowsPassed Missing = 0
 
--- the line of the first `go` without its label: this one, if none was before it
-abbrev pub missingAt : Target → ℕ → ℕ → ℕ
-missingAt (Passes k) n before = before
-missingAt Missing n before = elim (eqb before 0) [ true ↦ n | false ↦ before ]
-
 -- "a malformed `go` label"
-unfoldable pub goRow : Progress → ℕ → List ℕ → Target → Reading → Step
-goRow p n s t (read c x) =
-    elim (isName s) [ true ↦ addRow p (goes c (rowsPassed t)) (missingAt t n (p .missing)) | false ↦ refused Label ]
-goRow p n s t outside = refused Expression
+unfoldable pub addGo : Progress → List ℕ → Target → Reading → Step
+addGo p label t (read c x) = kept (isName label) Label (addRow p (goes c (rowsPassed t)))
+addGo p label t outside = refused Expression
 
-unfoldable pub goLine : Progress → ℕ → List text.Line → List ℕ → Step
-goLine p n below s =
-    elim (hasFields 3 s) [
-      | true ↦ goRow p n (field 2 s) (passes (field 2 s) below) (expression (p .registers) (field 1 s))
-      | false ↦ refused Line
-    ]
+-- "`go`, condition, label", above the lines below it
+unfoldable pub goLine : Progress → List text.Line → List ℕ → Step
+goLine p below s = kept (hasFields 3 s) Line (addGo p (field 2 s) (passes (field 2 s) below) (expression (p .registers) (field 1 s)))

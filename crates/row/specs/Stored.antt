@@ -4,7 +4,7 @@ use mathlib.Core.Path.{_≡_}
 use mathlib.Core.Bool.{Bool, true, false, _&&_}
 use mathlib.Core.List.{List}
 use Prim.Native.Nat.{ℕ, _+_, _-_, _*_, _≤_, _<_}
-use lib.Dec.{leb, ltb}
+use lib.Dec.{eqb, leb, ltb}
 use lib.ListN.{length}
 use lib.Seq.{sets}
 use Rattle.word.specs.Choice.{pick}
@@ -13,7 +13,7 @@ use Rattle.fields.specs.Fields.{field}
 use Rattle.characters.specs.Named.{Named}
 use Rattle.names.specs.Names.{isName}
 use Rattle.code.specs.Tree.{Expr, Destination}
-use Rattle.code.specs.Readings.{read}
+use Rattle.code.specs.Readings.{Reading, read, outside, DestinationReading, leads, astray}
 use Rattle.expression.specs.Expression.{expression, destination}
 use Rattle.expression.specs.declared.Place.{Place}
 use Rattle.expression.specs.declared.Place.the-variants.{Register, Bits, Word, Nowhere}
@@ -23,21 +23,22 @@ use Rattle.declaration.specs.declared.faults.Fault.the-variants.{Limit, Label, 
 use Rattle.declaration.specs.declared.lines.Progress as progress
 use Rattle.declaration.specs.declared.lines.Status.the-variants.{Goes, Refused}
 use Rattle.declaration.specs.declared.lines.Step as step
-use Rattle.declaration.specs.Rows.{Row, rowPieces, addressPieces}
+use Rattle.declaration.specs.Rows.{Row, does, rowPieces, piecesOf, addressPieces}
 use Rattle.text_limits.specs.Limits.{mostRows, allPieces}
-use Rattle.declaration.specs.Lines.{Progress, Step}
+use Rattle.declaration.specs.Lines.{Progress, Step, refused}
 use Rattle.declaration.specs.Stored.{progressOf, stepOf, Within}
-use Rattle.targets.specs.Targets.{passes}
+use Rattle.targets.specs.Targets.{passes, isMissing}
 use Rattle.row.specs.declared.cells.Aim.{Aim}
 use Rattle.row.specs.declared.actions.RowRead.{RowRead}
-use Rattle.row.specs.Lines.{isSomewhere, RowReading, formed, unformed, doRow, rowsPassed, missingAt}
+use Rattle.row.specs.Lines.{addRow, rowsPassed}
 use Rattle.row_table.specs.RowTable.{rowCells}
 use Rattle.row.specs.Cells.{goCells, addressCode, rowCode, code, kindOf, registerOf, rightOf, sizeOf, cellsOf, cells}
 
--- the lent tables hold the words of so many rows, and are else as they came
-pub record Tables (rs : List Row) (rows words : ℕ) (code₀ code₁ table₀ table₁ : List ℕ) : Type 0 where
-  pub rows-are : rows ≡ length rs
-  pub words-are : 4 * words ≡ length (code rs)
+-- the code's numbers count the rows, and the lent tables hold their words and are else as they came
+pub record Tables (rs : List Row) (q : progress.Progress) (code₀ code₁ table₀ table₁ : List ℕ) : Type 0 where
+  pub rows-are : q .rows ≡ length rs
+  pub pieces-are : q .pieces ≡ piecesOf rs
+  pub words-are : 4 * q .words ≡ length (code rs)
   pub code-is : code₁ ≡ sets code₀ 0 (code rs)
   pub table-is : table₁ ≡ sets table₀ 0 (cells 0 rs)
 
@@ -45,13 +46,19 @@ pub record Tables (rs : List Row) (rows words : ℕ) (code₀ code₁ table₀ t
 pub record Comes (text : List ℕ) (x : Step) (r : step.Step) (code₀ code₁ table₀ table₁ : List ℕ) : Type 0 where
   pub rows : List Row
   pub is : x ≡ stepOf text r rows
-  pub holds : r .status ≡ Goes → Tables rows (r .progress .rows) (r .progress .words) code₀ code₁ table₀ table₁
+  pub holds : r .status ≡ Goes → Tables rows (r .progress) code₀ code₁ table₀ table₁
 
--- a line, whatever the rows before it are
-pub record Takes (text : List ℕ) (f : Progress → Step) (q : progress.Progress) (r : step.Step) (code₁ code₂ table₁ table₂ : List ℕ) : Type 0 where
-  pub comes : (rs : List Row) (code₀ table₀ : List ℕ) → Tables rs (q .rows) (q .words) code₀ code₁ table₀ table₁
+-- a line, whatever the rows before it are, and the first `go` without its label that the code then holds
+pub record Takes (text : List ℕ) (f : Progress → Step) (gone : ℕ) (q : progress.Progress) (r : step.Step) (code₁ code₂ table₁ table₂ : List ℕ) : Type 0 where
+  pub comes : (rs : List Row) (code₀ table₀ : List ℕ) → Tables rs q code₀ code₁ table₀ table₁
       → Comes text (f (progressOf text q rs)) r code₀ code₂ table₀ table₂
+  pub missing-is : r .status ≡ Goes → r .progress .missing ≡ gone
   pub within : Within (r .progress)
+
+-- the line of the first `go` without its label, as the code holds it, 0 for none: line n, if its label is missing and none was before it
+abbrev pub firstGone : Bool → ℕ → ℕ → ℕ
+firstGone true n before = elim (eqb before 0) [ true ↦ n | false ↦ before ]
+firstGone false n before = before
 
 -- whether there is room for a row more, and for its pieces
 abbrev pub hasRoom : progress.Progress → Cursor → Bool
@@ -65,7 +72,6 @@ oneMore q end gone =
       rows = q .rows + 1;
       words = end .words;
       pieces = end .pieces;
-      begun = true;
       missing = gone;
     }
 
@@ -77,7 +83,7 @@ pub record Put (q : progress.Progress) (cs : List ℕ) (end : Cursor) (gone : �
 -- a `go` whose condition was read: its row, if its label is a name
 pub record Jumps (q : progress.Progress) (n : ℕ) (label : List ℕ) (below : List text.Line) (end : Cursor) (r : step.Step) (before after : List ℕ) : Type 0 where
   pub named : isName label ≡ true
-      → Put q (goCells (q .words) (end .words) (rowsPassed (passes label below))) end (missingAt (passes label below) n (q .missing)) r before after
+      → Put q (goCells (q .words) (end .words) (rowsPassed (passes label below))) end (firstGone (isMissing (passes label below)) n (q .missing)) r before after
   pub nameless : isName label ≡ false → r ≡ record { progress = q; status = Refused Label }
 
 -- the row of a `do`, if one was read
@@ -101,7 +107,6 @@ aimOf Nowhere from = record { kind = 0; register = 0; right = 0; size = 0; end =
 
 -- a destination that was read: its cells, and its address's words and pieces behind those before it
 pub record Aiming (x : Destination) (s : List ℕ) (a : Aim) (from : Cursor) (before after : List ℕ) : Type 0 where
-  pub somewhere : isSomewhere x ≡ true
   pub kind-is : a .kind ≡ kindOf x
   pub register-is : a .register ≡ registerOf x
   pub right-is : a .right ≡ rightOf x
@@ -112,9 +117,29 @@ pub record Aiming (x : Destination) (s : List ℕ) (a : Aim) (from : Cursor) (be
   pub words-few : a .end .words ≤ from .words + length s
   pub pieces-few : a .end .pieces ≤ from .pieces + length s
 
-pub record Aimed (x : Destination) (s : List ℕ) (a : Aim) (from : Cursor) (before after : List ℕ) : Type 0 where
-  pub aims : a .found ≡ true → Aiming x s a from before after
-  pub misses : a .found ≡ false → isSomewhere x ≡ false
+pub record Reached (x : DestinationReading) (s : List ℕ) (a : Aim) (from : Cursor) (before after : List ℕ) : Type 0 where
+  pub to : Destination
+  pub is : x ≡ leads to
+  pub aiming : Aiming to s a from before after
+
+pub record Aimed (x : DestinationReading) (s : List ℕ) (a : Aim) (from : Cursor) (before after : List ℕ) : Type 0 where
+  pub aims : a .found ≡ true → Reached x s a from before after
+  pub misses : a .found ≡ false → x ≡ astray
+
+-- the row that the three parts of a `do` make, or none
+pub data RowReading : Type 0 where
+  formed : Row → RowReading
+  unformed : RowReading
+
+unfoldable pub doRow : Reading → DestinationReading → Reading → RowReading
+doRow (read c x) (leads d) (read e y) = formed (does c d e)
+doRow (read c x) (leads d) outside = unformed
+doRow (read c x) astray e = unformed
+doRow outside d e = unformed
+
+abbrev pub takeRow : Progress → RowReading → Step
+takeRow p (formed r) = addRow p r
+takeRow p unformed = refused Expression
 
 -- a row that was read: its cells, and its words and pieces behind those before it
 pub record Forming (row : Row) (cs : List ℕ) (end from : Cursor) (before after : List ℕ) : Type 0 where

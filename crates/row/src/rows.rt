@@ -2,7 +2,6 @@
 use crate::actions;
 use crate::actions::RowRead;
 use crate::cells;
-use crate::limits;
 use code::CODE_PLACES;
 use code::Cursor;
 use code::Part;
@@ -15,6 +14,8 @@ use expression::read_expression;
 use row_table::ROW_CELLS;
 use row_table::TABLE_CELLS;
 use targets::Target;
+use text_limits::ALL_PIECES;
+use text_limits::MOST_ROWS;
 ghost use mathlib.Core.Path.{_≡_};
 ghost use Prim.Native.Nat.{_≤_};
 ghost use lib.ListN.{length};
@@ -23,8 +24,9 @@ ghost use Rattle.code.specs.Met.{capacity};
 ghost use Rattle.text_limits.specs.Limits.{mostBytes, longestLine, mostRows};
 ghost use Rattle.declaration.specs.declared.lines.Status.the-variants.{Goes};
 ghost use Rattle.declaration.specs.Stored.{Within};
-ghost use Rattle.row.specs.Lines.{goLine, doLine, rowsPassed, missingAt};
-ghost use Rattle.row.specs.Stored.{Takes, oneMore, Put, Jumps, Assigns};
+ghost use Rattle.targets.specs.Targets.{isMissing, passes};
+ghost use Rattle.row.specs.Lines.{goLine, doLine, rowsPassed};
+ghost use Rattle.row.specs.Stored.{Takes, firstGone, oneMore, Put, Jumps, Assigns};
 
 // The rows passed over, 0 where the label is missing.
 fn rows_passed(target: Target) -> u16
@@ -38,7 +40,7 @@ fn rows_passed(target: Target) -> u16
 
 // The line of the first `go` without its label: line n, if this one's is missing and none was before it.
 fn missing_at(target: Target, n: usize, before: usize) -> usize
-    ensures { λ r. ⌜ r ≡ missingAt target n before ⌝ }
+    ensures { λ r. ⌜ r ≡ firstGone (isMissing target) n before ⌝ }
 {
     match target {
         Target::Passes(_) => before,
@@ -55,7 +57,6 @@ fn one_more(q: Progress, end: Cursor, missing: usize) -> Step
     next.rows = q.rows + 1;
     next.words = end.words;
     next.pieces = end.pieces;
-    next.begun = true;
     next.missing = missing;
     Step {
         progress: next,
@@ -74,7 +75,7 @@ fn add_row(
     requires { ⌜ q .rows ≤ mostRows ⌝ }
     ensures { λ r. ⌜ Put q cells end missing r (now (table .entry)) (now (table .exit)) ⌝ }
 {
-    if (q.rows < limits::ROWS) & (end.pieces <= limits::PIECES) {
+    if (q.rows < MOST_ROWS) & (end.pieces <= ALL_PIECES) {
         cells::put_row(table, q.rows, cells);
         return one_more(q, end, missing);
     }
@@ -113,7 +114,8 @@ pub fn go_line(
     table: &mut [u16; TABLE_CELLS],
 ) -> Step
     requires { ⌜ Within q ⌝ ∗ ⌜ length (now line) ≤ longestLine ⌝ ∗ ⌜ length (now below) ≤ mostBytes ⌝ }
-    ensures { λ r. ⌜ Takes (now (text .entry)) (λ p. goLine p n (Fields·lines (now (below .entry))) (now (line .entry))) q r
+    ensures { λ r. ⌜ Takes (now (text .entry)) (λ p. goLine p (Fields·lines (now (below .entry))) (now (line .entry)))
+        (firstGone (isMissing (passes (field 2 (now (line .entry))) (Fields·lines (now (below .entry))))) n (q .missing)) q r
         (now (code .entry)) (now (code .exit)) (now (table .entry)) (now (table .exit)) ⌝ }
 {
     if !fields::has_fields(line, 3) {
@@ -153,7 +155,7 @@ pub fn do_line(
     table: &mut [u16; TABLE_CELLS],
 ) -> Step
     requires { ⌜ Within q ⌝ ∗ ⌜ length (now line) ≤ longestLine ⌝ }
-    ensures { λ r. ⌜ Takes (now (text .entry)) (λ p. doLine p (now (line .entry))) q r
+    ensures { λ r. ⌜ Takes (now (text .entry)) (λ p. doLine p (now (line .entry))) (q .missing) q r
         (now (code .entry)) (now (code .exit)) (now (table .entry)) (now (table .exit)) ⌝ }
 {
     if !fields::has_fields(line, 4) {

@@ -34,7 +34,7 @@ returns c =
     let a = c .before .before .before .before .before .before .args in
     let fields = sym (c .before .before .before .has-fields .ensures) ∙ c .before .before .if1 .taken in
     plain-as (a .text .now) (λ p. atLine p (a .line .now)) (λ p. addLabel p _) (a .q) (c .add-label .result)
-    (λ rs. at-fields _ (a .line .now) fields ∙ rw (c .before .field-of .ensures)) (c .add-label .ensures)
+    (λ rs counted. at-fields _ (a .line .now) fields ∙ rw (c .before .field-of .ensures)) (c .add-label .ensures)
 
 returns-2 : tie.Need-returns-2
 returns-2 c =
@@ -42,7 +42,7 @@ returns-2 c =
     let a = called .args in
     let malformed = sym (c .before .before .has-fields .ensures) ∙ c .before .if1 .left in
     plain-refused (a .text .now) (λ p. atLine p (a .line .now)) (a .q) Line (c .refused .result) (c .refused .ensures)
-    (λ rs. at-malformed _ (a .line .now) malformed) (called .pre .0)
+    (λ rs counted. at-malformed _ (a .line .now) malformed) (called .pre .0)
 
 pub at-line-spec : {M : Type 1} → statement M
 at-line-spec =

@@ -10,7 +10,6 @@ use Rattle.expression.specs.Expression.{expression, destination}
 use Rattle.grammar.proofs.Calls.{faulty}
 use Rattle.declaration.proofs.Fields.{field-2-le, fields-2-3-le}
 use Rattle.row.specs.declared.actions.RowRead.{RowRead}
-use Rattle.row.specs.Lines.{isSomewhere}
 use Rattle.row.proofs.RowLines.{read-as}
 use Rattle.row.proofs.Assignments.{row-forms, with-fields, no-value, no-destination}
 use borrow.Author.Needs.{needs}
@@ -36,7 +35,7 @@ read-expression-requires c κs =
     let field = aim .before .before in
     let start = field .before .before .before in
     let p = start .pre in
-    let y = aim .read-aim .ensures .aims (c .before .before .if1 .taken) in
+    let y = aim .read-aim .ensures .aims (c .before .before .if1 .taken) .aiming in
     let f = fields-2-3-le (start .args .line .now) _ _ (field .field-of .ensures) (c .before .field-of2 .ensures) in
     (p .0, (omega (arith, p .1 .1 .0, f, y .words-few), omega (arith, p .1 .1 .1, f, y .pieces-few)))
 
@@ -50,7 +49,7 @@ do-cells-requires c κs =
     let field = aim .before .before in
     let start = field .before .before .before in
     let p = start .pre in
-    let y = aim .read-aim .ensures .aims (test .if1 .taken) in
+    let y = aim .read-aim .ensures .aims (test .if1 .taken) .aiming in
     let f = fields-2-3-le (start .args .line .now) _ _ (field .field-of .ensures) (c .before .before .before .before .before .field-of2 .ensures) in
     let g = rw (c .before .end .given .1) at (c .before .before .before .read-expression .ensures .grown) in
     (p .1 .0, (omega (arith, p .1 .1 .0), (omega (arith, p .1 .1 .0, f, y .words-few), omega (arith, p .1 .1 .0, f, y .words-few, g .words-most, g .inside))))
@@ -88,7 +87,7 @@ returns c =
     record {
       forms = λ t e x u from before i h.
           with-fields rs (a .line .now) r from before after e x f g (second .ensures) (third .ensures)
-          (row-forms e x u from (a .condition) before (a .code .now) h (destination rs f) f aim mid y (expression rs g) end w after 0 k (a .start) r i
+          (row-forms e x u from (a .condition) before (a .code .now) h (y .to) f aim mid (y .aiming) (expression rs g) end w after 0 k (a .start) r (destination rs f) (y .is) i
           (c .do-cells .ensures) refl);
       lacks = λ t. not-so true refl t;
     }
@@ -111,7 +110,7 @@ returns-3 c =
       forms = λ t. not-so _ t (c .no-row2 .ensures);
       lacks = λ t e x.
           no-destination e x _ _
-          (ap (λ (l : List ℕ). isSomewhere (destination (entries (a .text .now) (a .d)) l)) (sym (field .field-of .ensures))
+          (ap (destination (entries (a .text .now) (a .d))) (sym (field .field-of .ensures))
           ∙ c .before .before .read-aim .ensures .misses (c .before .if1 .left));
     }
 

@@ -19,7 +19,7 @@ returns : tie.Need-returns
 returns c =
     let start = c .before .before .before .before .before in
     let line = start .args .line .now in
-    takes-refused _ (λ p. doLine p line) (start .args .q) Line _ (c .refused .ensures)
+    takes-refused _ (λ p. doLine p line) _ (start .args .q) Line _ (c .refused .ensures)
     (λ rs. do-malformed _ line (sym (c .before .before .has-fields .ensures) ∙ not-true _ (c .before .if1 .taken)))
     (start .pre .0)
 

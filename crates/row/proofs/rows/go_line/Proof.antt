@@ -24,8 +24,8 @@ returns : tie.Need-returns
 returns c =
     let start = c .before .before .before .before .before .before in
     let a = start .args in
-    takes-refused _ (λ p. goLine p (a .n) _ (a .line .now)) (a .q) Line _ (c .refused .ensures)
-    (λ rs. go-malformed _ (a .n) (a .line .now) (a .below .now) (sym (c .before .before .has-fields .ensures) ∙ not-true _ (c .before .if1 .taken)))
+    takes-refused _ (λ p. goLine p _ (a .line .now)) _ (a .q) Line _ (c .refused .ensures)
+    (λ rs. go-malformed _ (a .line .now) (a .below .now) (sym (c .before .before .has-fields .ensures) ∙ not-true _ (c .before .if1 .taken)))
     (start .pre .0)
 
 field-of-requires : tie.Need-field-of-requires
@@ -77,9 +77,9 @@ returns-3 c =
     let test = c .before .before .before .before .before .before in
     let start = test .before .before .before .before .before in
     let a = start .args in
-    takes-refused _ (λ p. goLine p (a .n) (lines (a .below .now)) (a .line .now)) (a .q) Expression _ (c .refused2 .ensures)
+    takes-refused _ (λ p. goLine p (lines (a .below .now)) (a .line .now)) _ (a .q) Expression _ (c .refused2 .ensures)
     (λ rs.
-    go-unread (progressOf (a .text .now) (a .q) rs) (a .n) (a .line .now) (a .below .now)
+    go-unread (progressOf (a .text .now) (a .q) rs) (a .line .now) (a .below .now)
     (sym (test .before .has-fields .ensures) ∙ not-false _ (test .if1 .left))
     (ap (expression _) (sym field) ∙ faulty _ _ _ _ (rw (c .before .enum-told .given .1) at (read .meets))))
     (start .pre .0)

@@ -6,7 +6,6 @@ use lib.ListN.{length, drop}
 use Rattle.state.specs.Refusals.{placeOf, reasonNumber, orElse}
 use Rattle.state.specs.Refusals as state
 use Rattle.state.specs.Checks.{checkState, checkRowList}
-use Rattle.state.specs.declared.Reason.{Reason}
 use Rattle.state.specs.declared.Verdict.{Verdict}
 use Rattle.state.specs.declared.Verdict.the-variants.{Fit, Unfit}
 use Rattle.characters.specs.Named.{Named}
@@ -39,15 +38,17 @@ abbrev pub refused : ℕ → ℕ → List ℕ → List ℕ → List ℕ → Repo
 refused number place registers memory list =
     record { number = number; place = place; steps = 0; reason = 0; listed = 0; registers = registers; memory = memory; list = list }
 
--- a run: why it ended, steps done and rows listed, with what it leaves
-abbrev pub ran : Reason → ℕ → ℕ → List ℕ → List ℕ → List ℕ → Report
-ran why steps listed registers memory list =
+-- the numbers and values of each case of the evaluator's answer, with what it leaves
+abbrev pub outcomeOf : Outcome → List ℕ → List ℕ → List ℕ → Report
+outcomeOf (Ran why steps listed) registers memory list =
     record { number = 0; place = 0; steps = steps; reason = reasonNumber why; listed = listed; registers = registers; memory = memory; list = list }
+outcomeOf (Unread f n) registers memory list = refused (numberOf f) n registers memory list
+outcomeOf (Refused why) registers memory list = refused (state.numberOf why) (placeOf why) registers memory list
 
 -- "The evaluator lists the rows that acted in its last cycle, rising; later places stay"
 abbrev pub finished : Run → List ℕ → Report
 finished r list =
-    ran (r .reason) (r .steps) (length (r .acted)) (r .state .registers) (r .state .memory) (r .acted ++ drop (length (r .acted)) list)
+    outcomeOf (Ran (r .reason) (r .steps) (length (r .acted))) (r .state .registers) (r .state .memory) (r .acted ++ drop (length (r .acted)) list)
 
 -- the widths of a description's registers, in their order
 abbrev pub widthsOf : Description → List ℕ
@@ -59,21 +60,16 @@ check d registers memory budget list = orElse (checkState (widthsOf d) registers
 
 -- "Tried after the text"
 unfoldable pub evaluateOf : text.Acceptance → List ℕ → List ℕ → ℕ → List ℕ → Report
-evaluateOf (turnedDown f n) registers memory budget list = refused (numberOf f) n registers memory list
+evaluateOf (turnedDown f n) registers memory budget list = outcomeOf (Unread f n) registers memory list
 evaluateOf (accepted d) registers memory budget list =
     elim (check d registers memory budget list) [
       | Fit ↦ finished (run d budget (record { registers = registers; memory = memory })) list
-      | Unfit why ↦ refused (state.numberOf why) (placeOf why) registers memory list
+      | Unfit why ↦ outcomeOf (Refused why) registers memory list
     ]
 
 unfoldable pub evaluate : List ℕ → List ℕ → List ℕ → ℕ → List ℕ → Report
 evaluate text registers memory budget list = evaluateOf (readText text) registers memory budget list
 
--- the numbers and values of each case of the evaluator's answer, with the memory and the row list that are left
-abbrev pub outcomeOf : Outcome → List ℕ → List ℕ → List ℕ → Report
-outcomeOf (Ran why steps listed) registers memory list = ran why steps listed registers memory list
-outcomeOf (Unread f n) registers memory list = refused (numberOf f) n registers memory list
-outcomeOf (Refused why) registers memory list = refused (state.numberOf why) (placeOf why) registers memory list
-
+-- the answer, with the memory and the row list that are left
 abbrev pub report : Answer → List ℕ → List ℕ → Report
 report r memory list = outcomeOf (r .outcome) (r .registers .values) memory list

@@ -2,7 +2,7 @@
 use names::Dictionary;
 use state::Verdict;
 use store::Registers;
-use text_limits::REGISTERS;
+use text_limits::MOST_REGISTERS;
 ghost use mathlib.Core.Path.{_≡_};
 ghost use Prim.Native.Nat.{ℕ, _≤_};
 ghost use Rattle.word.specs.Word.{widest};
@@ -22,12 +22,12 @@ fn width_at(d: Dictionary, place: usize) -> u64
 }
 
 // The widths of the sixteen places.
-fn widths_of(d: Dictionary) -> [u64; REGISTERS]
+fn widths_of(d: Dictionary) -> [u64; MOST_REGISTERS]
     ensures { λ w. ⌜ w ≡ padded d ⌝ }
 {
-    let mut w = [0u64; REGISTERS];
+    let mut w = [0u64; MOST_REGISTERS];
     let mut i = 0;
-    while i < REGISTERS {
+    while i < MOST_REGISTERS {
         w[i] = width_at(d, i);
         i += 1;
     }

@@ -100,7 +100,7 @@ fn put_answer(
     pc: u16,
     before: &[u16; MEMORY_WORDS],
     memory: &[u16; MEMORY_WORDS],
-    places: [u16; 16],
+    places: [u16; text_limits::MOST_REGISTERS],
     list: &[u8; ROW_PLACES],
     n: usize,
 ) -> usize

@@ -3,6 +3,7 @@ use crate::outcome;
 use crate::outcome::OUTCOME_PLACES;
 use evaluator::Outcome;
 use store::Registers;
+use text_limits::MOST_REGISTERS;
 ghost use mathlib.Core.Path.{_≡_};
 ghost use mathlib.Core.List.{List};
 ghost use Prim.Native.Nat.{ℕ};
@@ -26,7 +27,7 @@ fn outcome_of(end: Outcome) -> [u64; OUTCOME_PLACES]
 pub extern "C" fn guavachisel_evaluate(
     text: &[u8],
     memory: &mut [u16],
-    registers: &mut [u16; 16],
+    registers: &mut [u16; MOST_REGISTERS],
     budget: u64,
     rows: &mut [u8],
     outcome: &mut [u64; OUTCOME_PLACES],

@@ -50,7 +50,11 @@ pub fn put_registers(page: &mut [u8; PAGE_BYTES], at: usize, m: Machine) -> usiz
 }
 
 // The working registers, by the values of all the registers of the description.
-pub fn put_working(page: &mut [u8; PAGE_BYTES], at: usize, values: [u16; 16]) -> usize
+pub fn put_working(
+    page: &mut [u8; PAGE_BYTES],
+    at: usize,
+    values: [u16; text_limits::MOST_REGISTERS],
+) -> usize
     requires { ⌜ at + workingLinesBytes ≤ pageBytes ⌝ }
     ensures { λ r. ⌜ Written (registerLines workingRegisters (workingValues values)) (now (page .entry)) at (now (page .exit)) r ⌝ }
 {

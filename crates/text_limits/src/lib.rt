@@ -10,5 +10,3 @@ pub const MOST_ROWS: usize = 128;
 pub const MOST_LABELS: usize = 32;
 
 pub const ALL_PIECES: usize = 1024;
-
-pub const REGISTERS: usize = MOST_REGISTERS;

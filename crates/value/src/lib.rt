@@ -5,7 +5,7 @@ use store::MEMORY_WORDS;
 use store::operation::operate;
 use store::register_value;
 use store::shifts::power_of;
-use text_limits::REGISTERS;
+use text_limits::MOST_REGISTERS;
 ghost use mathlib.Core.Path.{_≡_};
 ghost use Prim.Native.Nat.{_+_, _*_, _≤_};
 ghost use lib.ListN.{length, getD};
@@ -16,7 +16,7 @@ ghost use Rattle.value.specs.Words.{leafValue, wordValue, pops as Words�
 const STACK_PLACES: usize = 32;
 
 // A register, a bit part of one, or a constant.
-fn leaf_value(kind: u16, a: u16, b: u16, c: u16, r: &[u16; REGISTERS]) -> u16
+fn leaf_value(kind: u16, a: u16, b: u16, c: u16, r: &[u16; MOST_REGISTERS]) -> u16
     ensures { λ v. ⌜ v ≡ leafValue (now (r .entry)) kind a b c ⌝ }
 {
     if kind == kinds::CONSTANT {
@@ -46,7 +46,7 @@ fn pops(kind: u16) -> usize
 fn word_value(
     code: &[u16; CODE_PLACES],
     at: usize,
-    r: &[u16; REGISTERS],
+    r: &[u16; MOST_REGISTERS],
     memory: &[u16],
     x: u16,
     y: u16,
@@ -71,7 +71,7 @@ fn value_of(
     code: &[u16; CODE_PLACES],
     from: usize,
     n: usize,
-    r: &[u16; REGISTERS],
+    r: &[u16; MOST_REGISTERS],
     memory: &[u16],
 ) -> u16
     requires { ⌜ from + 4 * n ≤ codePlaces ⌝ ∗ ⌜ length (now memory) ≡ memoryWords ⌝ }
@@ -103,7 +103,7 @@ pub fn value_between(
     code: &[u16; CODE_PLACES],
     from: u16,
     to: u16,
-    r: &[u16; REGISTERS],
+    r: &[u16; MOST_REGISTERS],
     memory: &[u16],
 ) -> u16
     requires { ⌜ length (now memory) ≡ memoryWords ⌝ }

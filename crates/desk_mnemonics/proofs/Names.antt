@@ -18,7 +18,8 @@ use Rattle.characters.specs.Ascii.{ascii, tab}
 use Rattle.page.specs.Text.{octal}
 use Rattle.page.proofs.Numbers.{octal-length}
 use Rattle.desk_mnemonics.specs.declared.Name.{Name}
-use Rattle.desk_mnemonics.specs.Mnemonics.{names, noName, isNamed, namesOf, unnamed, space, spaced, parted, operandMark, operand, operandOf, mnemonic, nameBytes, namesBytes, operandBytes, mnemonicBytes}
+use Rattle.desk_mnemonics.specs.Mnemonics.{names, noName, isNamed, namesOf, unnamed, space, spaced, parted, operandMark, operand, operandOf, mnemonic}
+use Rattle.desk_mnemonics.specs.Sizes.{nameBytes, namesBytes, operandBytes, mnemonicBytes}
 
 -- ---- the table
 

@@ -96,17 +96,3 @@ operandOf i last = pick (ltb (op i) 6) (operand i last) []
 -- the mnemonic of the instruction i that was fetched from `last`
 unfoldable pub mnemonic : ℕ → ℕ → List ℕ
 mnemonic i last = parted (unnamed i) (namesOf i names) ++ operandOf i last
-
--- the most bytes that a name behind its mark has, all names, and the operand
-abbrev pub nameBytes : ℕ
-nameBytes = 4
-
-abbrev pub namesBytes : ℕ
-namesBytes = 116
-
-abbrev pub operandBytes : ℕ
-operandBytes = 7
-
--- the most that a mnemonic behind a TAB has
-abbrev pub mnemonicBytes : ℕ
-mnemonicBytes = 123

@@ -11,7 +11,8 @@ ghost use lib.ListN.{length, getD};
 ghost use Rattle.word.specs.Choice.{pick};
 ghost use Rattle.characters.specs.Ascii.{tab};
 ghost use Rattle.page.specs.Written.{Written};
-ghost use Rattle.desk_mnemonics.specs.Mnemonics.{names, noName, isNamed, namesOf, unnamed, space, parted, operandMark, operand, mnemonic, nameBytes, namesBytes, operandBytes, mnemonicBytes};
+ghost use Rattle.desk_mnemonics.specs.Mnemonics.{names, noName, isNamed, namesOf, unnamed, space, parted, operandMark, operand, mnemonic};
+ghost use Rattle.desk_mnemonics.specs.Sizes.{nameBytes, namesBytes, operandBytes, mnemonicBytes};
 
 // A name of the handbook: an instruction has it where the bits of the mask are as in the code.
 pub struct Name {

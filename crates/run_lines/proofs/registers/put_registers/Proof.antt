@@ -4,7 +4,7 @@ use native.Mathlib.Omega.{arith}
 use Prim.Native.Nat.{_+_, _≤_}
 use Rattle.characters.specs.Ascii.{ascii}
 use Rattle.page.proofs.Writing.{written-none, written-then}
-use Rattle.run_lines.specs.Registers.{pageBytes}
+use Rattle.run_lines.specs.Sizes.{pageBytes}
 use Rattle.run_lines.proofs.RegisterLines.{register-end}
 use Rattle.run_lines.proofs.registers.put_registers.Statement.{statement}
 use Rattle.run_lines.proofs.registers.put_registers.Tie as tie

@@ -9,7 +9,7 @@ ghost use Prim.Native.Nat.{_+_, _<_, _≤_};
 ghost use Rattle.state.specs.Acceptable.{Acceptable};
 ghost use Rattle.machine.specs.State.{at as state, Good};
 ghost use Rattle.day_listing.specs.Listing.{runListing};
-ghost use Rattle.page.specs.Written.{Page};
+ghost use Rattle.page.specs.Page.{Page};
 ghost use Rattle.day_listing.specs.Stepped.{stepLineBytes, pageBytes, Stepped};
 
 const BUDGET: u64 = 16;

@@ -9,7 +9,7 @@ use Rattle.machine.specs.State.{lacBits, widths}
 use Rattle.machine.proofs.Registers.{width-le}
 use Rattle.characters.specs.declared.Class.the-variants.{Octal}
 use Rattle.entry.specs.Lines.{digitsOf, registerEntry}
-use Rattle.entry.proofs.Digits.{digits-size}
+use Rattle.image.proofs.Digits.{digits-size}
 use Rattle.entry.proofs.register_entry.Statement.{statement}
 use Rattle.entry.proofs.register_entry.Tie as tie
 

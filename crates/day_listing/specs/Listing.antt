@@ -3,18 +3,15 @@
 use mathlib.Core.List.{List, [], _∷_, _++_}
 use mathlib.Core.Bool.{true, false}
 use Prim.Native.Nat.{ℕ, zero, suc}
-use Rattle.word.specs.Choice.{on, pick}
-use Rattle.state.specs.Checks.{checkMemory}
-use Rattle.state.specs.declared.Verdict.{Verdict}
-use Rattle.state.specs.declared.Verdict.the-variants.{Fit, Unfit}
+use Rattle.word.specs.Choice.{on}
 use Rattle.machine.specs.State.{State, word}
 use Rattle.pdp8.specs.Step.{step}
 use Rattle.pdp8.specs.Run.{run}
 use Rattle.characters.specs.Ascii.{ascii, tab, lineFeed}
 use Rattle.page.specs.Text.{octal, decimal}
-use Rattle.last_lines.specs.LastLines.{endLine, refusedLine}
-use Rattle.image.specs.Input.{linesOf, clear, loaded, firstUnfit}
-use Rattle.image.specs.Scan.{Scan, unfitLine}
+use Rattle.last_lines.specs.LastLines.{endLine, orRefused}
+use Rattle.fields.specs.Fields.{lines}
+use Rattle.image.specs.Input.{isWordLine, loaded, firstUnfit}
 
 -- "the budget is 16"
 abbrev pub budget : ℕ
@@ -48,21 +45,6 @@ runListing memory =
     heading ++ stepLines budget 0 (ready memory)
     ++ endLine (run budget (ready memory) .steps) (run budget (ready memory) .reason)
 
--- "If any line is unfit, ..": for the number of the first unfit line, or 0, and the memory loaded
-abbrev pub listingOf : ℕ → List ℕ → List ℕ
-listingOf zero memory = runListing memory
-listingOf (suc n) memory = refusedLine (suc n)
-
 -- the output for an input
 unfoldable pub dayListing : List ℕ → List ℕ
-dayListing text = listingOf (firstUnfit 1 (linesOf text)) (loaded (linesOf text) clear)
-
--- "Memory that meets neither 11 nor 12 is acceptable": by the check's verdict. No text leaves another memory; it has no run, and nothing is listed.
-abbrev pub checkedListing : Verdict → List ℕ → List ℕ
-checkedListing Fit memory = runListing memory
-checkedListing (Unfit why) memory = []
-
--- the output where the input ends, for whatever scanner and memory are held then. The law `scan-listing` says that after a text this is the text's.
-unfoldable pub scanListing : Scan → List ℕ
-scanListing s =
-    pick (on (unfitLine (s .scanner))) (refusedLine (unfitLine (s .scanner))) (checkedListing (checkMemory (s .memory)) (s .memory))
+dayListing text = orRefused (firstUnfit isWordLine 1 (lines text)) (runListing (loaded text))

@@ -5,9 +5,10 @@ mod run;
 use image::Scanner;
 use state::MEMORY_WORDS;
 use state::Verdict;
-ghost use Rattle.day_listing.specs.Listing.{dayListing, scanListing};
-ghost use Rattle.image.specs.Scan.{held};
-ghost use Rattle.page.specs.Written.{Page};
+ghost use Rattle.day_listing.specs.Listing.{dayListing};
+ghost use Rattle.day_listing.specs.Scanned.{scanListing};
+ghost use Rattle.image.specs.Scan.{kept};
+ghost use Rattle.page.specs.Page.{Page};
 
 // The bytes of a page that a listing is written to. The longest has 359.
 pub const PAGE_BYTES: usize = 512;
@@ -15,7 +16,7 @@ pub const PAGE_BYTES: usize = 512;
 // Writes the listing of a text that has been scanned to the start of a page, and answers how many bytes it has: none where the
 // memory holds a word above 4,095, which no text leaves.
 pub fn listing(memory: &[u16; MEMORY_WORDS], s: Scanner, page: &mut [u8; PAGE_BYTES]) -> usize
-    ensures { λ r. ⌜ Page (scanListing (held s (now (memory .entry)))) (now (page .entry)) (now (page .exit)) r ⌝ }
+    ensures { λ r. ⌜ Page (scanListing (kept s (now (memory .entry)))) (now (page .entry)) (now (page .exit)) r ⌝ }
 {
     let refused = image::unfit_line(s);
     if refused != 0 {

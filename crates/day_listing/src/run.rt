@@ -10,7 +10,7 @@ ghost use Rattle.state.specs.Acceptable.{Acceptable};
 ghost use Rattle.machine.specs.State.{Good};
 ghost use Rattle.machine.specs.Processor.{at as state};
 ghost use Rattle.day_listing.specs.Listing.{runListing};
-ghost use Rattle.page.specs.Written.{Page};
+ghost use Rattle.page.specs.Page.{Page};
 ghost use Rattle.day_listing.specs.Stepped.{stepLineBytes, pageBytes, Stepped};
 
 const BUDGET: u64 = 16;

@@ -17,7 +17,8 @@ use Rattle.page.specs.Text.{octal}
 use Rattle.page.proofs.Numbers.{octal-length}
 use Rattle.desk_mnemonics.specs.Mnemonics.{mnemonic}
 use Rattle.desk_mnemonics.proofs.Names.{mnemonic-size}
-use Rattle.desk_last_step.specs.LastStep.{placed, lastLine, wordLine, changeLine, changeLines, lastLineBytes, wordLineBytes}
+use Rattle.desk_last_step.specs.LastStep.{placed, lastLine, wordLine, changeLine, changeLines}
+use Rattle.desk_last_step.specs.Sizes.{lastLineBytes, wordLineBytes}
 
 -- ---- sizes
 

@@ -18,7 +18,8 @@ use Rattle.reference.specs.Address.{firstAddress, isIndex, indexed, effective, 
 use Rattle.reference.specs.Reference.{operation, reference}
 use Rattle.reference.proofs.Ops.{by-op}
 use Rattle.pdp8.specs.Step.{execute, step}
-use Rattle.desk_last_step.specs.LastStep.{changeLines, wordLineBytes, changeLinesBytes}
+use Rattle.desk_last_step.specs.LastStep.{changeLines}
+use Rattle.desk_last_step.specs.Sizes.{wordLineBytes, changeLinesBytes}
 use Rattle.desk_last_step.proofs.Changes.{unchanged, stored-size}
 
 -- the lines of the words that differ from a memory have at most n bytes

@@ -34,13 +34,3 @@ changeLines address (x ∷ before) (y ∷ after) = changeLine address x y ++ cha
 -- by PC and memory before the step, and memory after it; "With 0 steps there is no `last`, no `word`"
 unfoldable pub lastStep : ℕ → ℕ → List ℕ → List ℕ → List ℕ
 lastStep steps pc before after = pick (on steps) (lastLine pc (getD before pc 0) ++ changeLines 0 before after) []
-
--- the most bytes that the line of an instruction has, that of a word, and all lines of a step: "at most three" of words
-abbrev pub lastLineBytes : ℕ
-lastLineBytes = 138
-
-abbrev pub wordLineBytes : ℕ
-wordLineBytes = 20
-
-abbrev pub changeLinesBytes : ℕ
-changeLinesBytes = 60

@@ -1,1 +1,2 @@
 pub mod LastStep
+pub mod Sizes

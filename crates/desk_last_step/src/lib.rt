@@ -8,7 +8,8 @@ ghost use mathlib.Core.Path.{_≡_};
 ghost use Prim.Native.Nat.{_+_, _<_, _≤_};
 ghost use lib.ListN.{length};
 ghost use Rattle.page.specs.Written.{Written};
-ghost use Rattle.desk_last_step.specs.LastStep.{placed, lastLine, changeLine, changeLines, lastStep, lastLineBytes};
+ghost use Rattle.desk_last_step.specs.LastStep.{placed, lastLine, changeLine, changeLines, lastStep};
+ghost use Rattle.desk_last_step.specs.Sizes.{lastLineBytes};
 
 // A line's first three fields: its first word, an address, the word there.
 fn put_place(page: &mut [u8], at: usize, first: &[u8], address: u64, word: u16) -> usize

@@ -18,7 +18,8 @@ use Rattle.characters.specs.Ascii.{ascii, tab}
 use Rattle.page.specs.Text.{octal}
 use Rattle.page.proofs.Numbers.{octal-length}
 use Rattle.desk_mnemonics.specs.declared.Name.{Name}
-use Rattle.desk_mnemonics.specs.Mnemonics.{names, noName, isNamed, namesOf, unnamed, space, spaced, parted, operandMark, operand, operandOf, mnemonic, nameBytes, namesBytes, operandBytes, mnemonicBytes}
+use Rattle.desk_mnemonics.specs.Mnemonics.{names, isNamed, namesOf, unnamed, space, spaced, parted, operand, mnemonic}
+use Rattle.desk_mnemonics.specs.Sizes.{noName, nameBytes, namesBytes, operandBytes, mnemonicBytes}
 
 -- ---- the table
 
@@ -124,7 +125,7 @@ pub named-size : (t : Bool) (b : ℕ) (w : List ℕ) → length w ≤ 3 → leng
 named-size true b w h = omega arith
 named-size false b w h = omega arith
 
-pub mark-size : (i : ℕ) → length (operandMark i) ≤ 3
+pub mark-size : (i : ℕ) → length (pick (on (ib i)) (ascii " I ") (ascii " ")) ≤ 3
 mark-size i = go (on (ib i))
   where
     go : (t : Bool) → length (pick t (ascii " I ") (ascii " ")) ≤ 3
@@ -135,7 +136,7 @@ operand-size : (i last : ℕ) → length (operand i last) ≤ operandBytes
 operand-size i last =
     let mark = mark-size i in
     let digits = octal-length 4 (firstAddress i last) in
-    let whole = length-append (operandMark i) (octal 4 (firstAddress i last)) in
+    let whole = length-append (pick (on (ib i)) (ascii " I ") (ascii " ")) (octal 4 (firstAddress i last)) in
     omega arith
 
 picked-size : (t : Bool) (l : List ℕ) (n : ℕ) → length l ≤ n → length (pick t l []) ≤ n
@@ -176,5 +177,5 @@ unfolding mnemonic
 mnemonic-size i last =
     let first = names-size i in
     let then = picked-size (ltb (op i) 6) (operand i last) operandBytes (operand-size i last) in
-    let whole = length-append (tab ∷ parted (unnamed i) (namesOf i names)) (operandOf i last) in
+    let whole = length-append (tab ∷ parted (unnamed i) (namesOf i names)) (pick (ltb (op i) 6) (operand i last) []) in
     omega arith

@@ -5,10 +5,10 @@ use mathlib.Core.List.{List, [], _∷_, _++_}
 use Prim.Native.Nat.{ℕ}
 use lib.Bits.{bitAnd}
 use lib.Dec.{eqb, ltb}
-use Rattle.word.specs.Choice.{on, pick}
+use Rattle.word.specs.Choice.{pick, on}
 use Rattle.machine.specs.Instruction.{op, ib}
 use Rattle.reference.specs.Address.{firstAddress}
-use Rattle.characters.specs.Ascii.{ascii}
+use Rattle.characters.specs.Ascii.{ascii, byteOf}
 use Rattle.page.specs.Text.{octal}
 use Rattle.desk_mnemonics.specs.declared.Name.{Name}
 
@@ -51,10 +51,6 @@ names =
     ∷ record { mask = 0o7601; code = 0o7601; letters = ascii "CLA" }
     ∷ []
 
--- past the table there is no name: no instruction has it
-abbrev pub noName : Name
-noName = record { mask = 0; code = 1; letters = [] }
-
 -- whether an instruction has a name
 abbrev pub isNamed : ℕ → Name → Bool
 isNamed i n = eqb (bitAnd i (n .mask)) (n .code)
@@ -69,7 +65,7 @@ abbrev pub unnamed : ℕ → List ℕ
 unnamed i = pick (eqb (op i) 6) (ascii "IOT") (ascii "NOP")
 
 abbrev pub space : ℕ
-space = 32
+space = byteOf " "
 
 -- each behind a space
 unfoldable pub spaced : List (List ℕ) → List ℕ
@@ -81,32 +77,10 @@ abbrev pub parted : List ℕ → List (List ℕ) → List ℕ
 parted none [] = none
 parted none (w ∷ ws) = w ++ spaced ws
 
--- "then `I` if ib is 1", between spaces
-abbrev pub operandMark : ℕ → List ℕ
-operandMark i = pick (on (ib i)) (ascii " I ") (ascii " ")
-
--- ", then the first address in four octal digits, page and page address joined, before indirection"
+-- "then `I` if ib is 1, then the first address in four octal digits, page and page address joined, before indirection"
 abbrev pub operand : ℕ → ℕ → List ℕ
-operand i last = operandMark i ++ octal 4 (firstAddress i last)
+operand i last = pick (on (ib i)) (ascii " I ") (ascii " ") ++ octal 4 (firstAddress i last)
 
--- "Ops 0 to 5" have it
-abbrev pub operandOf : ℕ → ℕ → List ℕ
-operandOf i last = pick (ltb (op i) 6) (operand i last) []
-
--- the mnemonic of the instruction i that was fetched from `last`
+-- the mnemonic of the instruction i that was fetched from `last`; "Ops 0 to 5" have an operand
 unfoldable pub mnemonic : ℕ → ℕ → List ℕ
-mnemonic i last = parted (unnamed i) (namesOf i names) ++ operandOf i last
-
--- the most bytes that a name behind its mark has, all names, and the operand
-abbrev pub nameBytes : ℕ
-nameBytes = 4
-
-abbrev pub namesBytes : ℕ
-namesBytes = 116
-
-abbrev pub operandBytes : ℕ
-operandBytes = 7
-
--- the most that a mnemonic behind a TAB has
-abbrev pub mnemonicBytes : ℕ
-mnemonicBytes = 123
+mnemonic i last = parted (unnamed i) (namesOf i names) ++ pick (ltb (op i) 6) (operand i last) []

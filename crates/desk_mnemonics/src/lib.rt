@@ -8,10 +8,12 @@ ghost use mathlib.Core.Path.{_≡_};
 ghost use mathlib.Core.List.{[], _∷_};
 ghost use Prim.Native.Nat.{_+_, _<_, _≤_};
 ghost use lib.ListN.{length, getD};
-ghost use Rattle.word.specs.Choice.{pick};
-ghost use Rattle.characters.specs.Ascii.{tab};
+ghost use Rattle.word.specs.Choice.{pick, on};
+ghost use Rattle.machine.specs.Instruction.{ib};
+ghost use Rattle.characters.specs.Ascii.{ascii, tab};
 ghost use Rattle.page.specs.Written.{Written};
-ghost use Rattle.desk_mnemonics.specs.Mnemonics.{names, noName, isNamed, namesOf, unnamed, space, parted, operandMark, operand, mnemonic, nameBytes, namesBytes, operandBytes, mnemonicBytes};
+ghost use Rattle.desk_mnemonics.specs.Mnemonics.{names, isNamed, namesOf, unnamed, space, parted, operand, mnemonic};
+ghost use Rattle.desk_mnemonics.specs.Sizes.{noName, nameBytes, namesBytes, operandBytes, mnemonicBytes};
 
 // A name of the handbook: an instruction has it where the bits of the mask are as in the code.
 pub struct Name {
@@ -250,7 +252,7 @@ fn put_operand(page: &mut [u8], at: usize, i: u16, last: u16) -> usize
 // What stands before the first address.
 fn put_mark(page: &mut [u8], at: usize, i: u16) -> usize
     requires { ⌜ at + 3 ≤ length (now page) ⌝ }
-    ensures { λ r. ⌜ Written (operandMark i) (now (page .entry)) at (now (page .exit)) r ⌝ }
+    ensures { λ r. ⌜ Written (pick (on (ib i)) (ascii " I ") (ascii " ")) (now (page .entry)) at (now (page .exit)) r ⌝ }
 {
     if i / 256 % 2 != 0 {
         put_text(page, at, b" I ")

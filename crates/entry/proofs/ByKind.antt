@@ -18,13 +18,14 @@ use Rattle.characters.specs.Named.{find}
 use Rattle.characters.specs.declared.Class.the-variants.{Octal, Decimal}
 use Rattle.laws.proofs.Tests.{by-case}
 use Rattle.laws.proofs.Joined.{and-left, and-right}
-use Rattle.entry.specs.Lines.{isDigits, budgetDigits, wordEntry, registerEntry, budgetEntry, said, entry}
+use Rattle.image.specs.Input.{isDigits, isOctalWord, octalWord}
+use Rattle.entry.specs.Lines.{budgetDigits, wordEntry, registerEntry, budgetEntry, said, entry}
 use Rattle.entry.specs.declared.Entry.{Entry}
 use Rattle.entry.specs.declared.Entry.the-variants.{Word, Register, Budget, Unfit}
 
 -- a property of each kind of line of two fields, by what is known of them
 pub record Each (P : Entry → Type 0) (name value : List ℕ) : Type 0 where
-  pub word : isDigits Octal 4 name ≡ true → isDigits Octal 4 value ≡ true → P (Word (numberAt 8 name 0 4 0) (numberAt 8 value 0 4 0))
+  pub word : isOctalWord name ≡ true → isOctalWord value ≡ true → P (Word (octalWord name) (octalWord value))
   pub register :
       let place = find name machineRegisters in
       let width = getD widths place 0 in
@@ -38,8 +39,8 @@ module _ (P : Entry → Type 0) (unfit : P Unfit) where
   by-word : (name value : List ℕ) → Each P name value → P (wordEntry name value)
   unfolding wordEntry
   by-word name value each =
-      let first = isDigits Octal 4 name in
-      let second = isDigits Octal 4 value in
+      let first = isOctalWord name in
+      let second = isOctalWord value in
       by-case P (first && second) (λ t. each .word (and-left first second t) (and-right first second t)) (λ t. unfit)
 
   by-register : (name value : List ℕ) → Each P name value → find name machineRegisters < length machineRegisters

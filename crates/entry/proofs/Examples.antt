@@ -4,7 +4,7 @@ use mathlib.Core.Path.{_≡_, refl}
 use mathlib.Core.List.{[], _∷_, map}
 use lib.ListN.{replicate}
 use Rattle.characters.specs.Ascii.{ascii}
-use Rattle.characters.specs.Characters.{run, runEnd, same}
+use Rattle.characters.specs.Characters.{run, same}
 use Rattle.constants.specs.Constants.{numberAt}
 use Rattle.fields.specs.Fields.{field, hasFields}
 use Rattle.characters.specs.Named.{find}
@@ -36,7 +36,7 @@ fit-lines : map entry (
     ∷ Budget 0
     ∷ Budget 16
     ∷ []
-unfolding run runEnd same numberAt field hasFields find wordEntry registerEntry budgetEntry said entry
+unfolding run same numberAt field hasFields find wordEntry registerEntry budgetEntry said entry
 fit-lines = refl
 
 unfit-lines : map entry (
@@ -60,5 +60,5 @@ unfit-lines : map entry (
     ∷ []
     ∷ [])
     ≡ replicate 18 Unfit
-unfolding run runEnd same numberAt field hasFields find wordEntry registerEntry budgetEntry said entry
+unfolding run same numberAt field hasFields find wordEntry registerEntry budgetEntry said entry
 unfit-lines = refl

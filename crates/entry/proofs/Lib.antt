@@ -1,4 +1,3 @@
-pub mod Digits
 pub mod ByKind
 pub mod Short
 pub mod Examples

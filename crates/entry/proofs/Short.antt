@@ -1,28 +1,29 @@
 -- No fit line is longer than the scanner's buffer.
 -- Assumes nothing.
-use mathlib.Core.Path.{_≡_, refl, sym, ap, _∙_}
-use mathlib.Core.Bool.{Bool, true, false, _&&_, false≢true}
+use mathlib.Core.Path.{_≡_, refl, ap}
+use mathlib.Core.Bool.{Bool, true, false, _&&_}
 use mathlib.Core.List.{List, [], _∷_}
-use Prim.Native.Nat.{ℕ, suc, _+_, _≤_, _<_}
+use Prim.Native.Nat.{ℕ, suc, _≤_, _<_}
 use native.Mathlib.Omega.{arith}
-use lib.Dec.{eqb, leb, ltb}
-use lib.ListN.{length, getD, length-drop}
-use borrow.Author.Tests.{ltb-true, leb-true, eqb-true}
+use lib.Dec.{leb}
+use lib.ListN.{length, getD}
+use borrow.Author.Tests.{leb-true}
 use Rattle.machine.specs.Registers.{machineRegisters, widths, digitsOf}
 use Rattle.machine.proofs.Places.{width-le}
-use Rattle.characters.specs.Ascii.{ascii, tab}
+use Rattle.characters.specs.Ascii.{ascii}
 use Rattle.characters.specs.Characters.{same}
-use Rattle.fields.specs.Fields.{until, after, field, hasFields}
+use Rattle.fields.specs.Fields.{field}
 use Rattle.characters.specs.Named.{Named, find}
 use Rattle.characters.specs.declared.Class.the-variants.{Octal}
-use Rattle.fields.proofs.Lines.{before-length}
 use Rattle.characters.proofs.Strings.{equal}
 use Rattle.laws.proofs.Joined.{and-left, and-right}
 use Rattle.laws.proofs.Tests.{by-test}
-use Rattle.entry.specs.Lines.{entry, isUnfit, lineBytes}
+use Rattle.entry.specs.Lines.{entry, isFit}
+use Rattle.entry.specs.Sizes.{lineBytes}
 use Rattle.entry.specs.declared.Entry.{Entry}
 use Rattle.entry.specs.declared.Entry.the-variants.{Word, Register, Budget, Unfit}
-use Rattle.entry.proofs.Digits.{digits-size}
+use Rattle.image.proofs.Digits.{digits-size}
+use Rattle.image.proofs.WordLine.{two-fields}
 use Rattle.entry.proofs.ByKind.{by-entry}
 
 -- an entry that is unfit unless n is at most m
@@ -32,7 +33,7 @@ Within n m (Register place value) = n ≤ m
 Within n m (Budget steps) = n ≤ m
 Within n m Unfit = Unit {0}
 
-beyond : (n m : ℕ) (e : Entry) → Within n m e → m < n → isUnfit e ≡ true
+beyond : (n m : ℕ) (e : Entry) → Within n m e → m < n → isFit e ≡ false
 beyond n m (Word address word) w h = absurd (omega arith)
 beyond n m (Register place value) w h = absurd (omega arith)
 beyond n m (Budget steps) w h = absurd (omega arith)
@@ -53,21 +54,6 @@ found-within n name (e ∷ table) all h =
     (λ t.
     let later : find name (e ∷ table) ≡ suc (find name table) = rw (t, find) in
     found-within n name table (and-right (leb (length (e .name)) n) (allWithin n table) all) (omega arith))
-
--- two fields and the TAB between them
-two-fields : (line : List ℕ) → hasFields 2 line ≡ true → length line ≡ length (field 0 line) + 1 + length (field 1 line)
-unfolding hasFields field
-two-fields line t =
-    by-test (ltb 0 (until tab line) && ltb (until tab line) (length line))
-    (λ e.
-    let rest = after tab line in
-    let inner : until tab line < length line = ltb-true _ _ (and-right (ltb 0 (until tab line)) (ltb (until tab line) (length line)) e) in
-    let last : hasFields 2 line ≡ (ltb 0 (until tab rest) && eqb (until tab rest) (length rest)) = rw (e, hasFields) in
-    let whole : until tab rest ≡ length rest = eqb-true _ _ (and-right (ltb 0 (until tab rest)) (eqb (until tab rest) (length rest)) (sym last ∙ t)) in
-    omega (arith, before-length tab line, before-length tab rest, length-drop (until tab line + 1) line))
-    (λ e.
-    let none : hasFields 2 line ≡ false = rw (e, hasFields) in
-    absurd (false≢true (sym none ∙ t)))
 
 -- no register's name has more than 17 bytes (INTERRUPT.REQUEST), and no value beside it more than 6
 entry-within : (line : List ℕ) → Within (length line) lineBytes (entry line)
@@ -90,5 +76,5 @@ entry-within line =
     })
 
 -- the scanner need not keep more of a line
-pub long-unfit : (line : List ℕ) → lineBytes < length line → isUnfit (entry line) ≡ true
+pub long-unfit : (line : List ℕ) → lineBytes < length line → isFit (entry line) ≡ false
 long-unfit line h = beyond (length line) lineBytes (entry line) (entry-within line) h

@@ -5,28 +5,24 @@ use mathlib.Core.List.{List}
 use mathlib.Core.Bool.{Bool, true, false, _&&_}
 use Prim.Native.Nat.{ℕ}
 use lib.ListN.{length, getD}
-use lib.Dec.{eqb, leb, ltb}
+use lib.Dec.{leb, ltb}
 use Rattle.word.specs.Word.{fits}
 use Rattle.state.specs.Limits.{budgetLimit}
 use Rattle.machine.specs.Registers.{machineRegisters, widths, digitsOf}
 use Rattle.characters.specs.Ascii.{ascii}
-use Rattle.characters.specs.Characters.{runEnd, same}
+use Rattle.characters.specs.Characters.{same}
 use Rattle.constants.specs.Constants.{numberAt}
 use Rattle.fields.specs.Fields.{field, hasFields}
+use Rattle.image.specs.Input.{isDigits, isOctalWord, octalWord}
 use Rattle.characters.specs.Named.{find, among}
-use Rattle.characters.specs.declared.Class.{Class}
 use Rattle.characters.specs.declared.Class.the-variants.{Octal, Decimal}
 use Rattle.entry.specs.declared.Entry.{Entry}
 use Rattle.entry.specs.declared.Entry.the-variants.{Word, Register, Budget, Unfit}
 
--- whether a field is n digits
-abbrev pub isDigits : Class → ℕ → List ℕ → Bool
-isDigits k n field = eqb (length field) n && eqb (runEnd k field 0) n
-
 -- "four-digit octal address, TAB, four-digit octal word"
 unfoldable pub wordEntry : List ℕ → List ℕ → Entry
 wordEntry address word =
-    elim (isDigits Octal 4 address && isDigits Octal 4 word) [ true ↦ Word (numberAt 8 address 0 4 0) (numberAt 8 word 0 4 0) | false ↦ Unfit ]
+    elim (isOctalWord address && isOctalWord word) [ true ↦ Word (octalWord address) (octalWord word) | false ↦ Unfit ]
 
 -- a machine register's value "in exactly as many octal digits as the output has for it, .. that fits the register's width"
 unfoldable pub registerEntry : ℕ → ℕ → List ℕ → Entry
@@ -64,13 +60,9 @@ said name value =
 unfoldable pub entry : List ℕ → Entry
 entry line = elim (hasFields 2 line) [ true ↦ said (field 0 line) (field 1 line) | false ↦ Unfit ]
 
--- whether it is unfit
-abbrev pub isUnfit : Entry → Bool
-isUnfit (Word address word) = false
-isUnfit (Register place value) = false
-isUnfit (Budget steps) = false
-isUnfit Unfit = true
-
--- no fit line has more bytes: the law `long-unfit`
-abbrev pub lineBytes : ℕ
-lineBytes = 24
+-- whether it is fit
+abbrev pub isFit : Entry → Bool
+isFit (Word address word) = true
+isFit (Register place value) = true
+isFit (Budget steps) = true
+isFit Unfit = false

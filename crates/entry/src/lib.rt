@@ -7,7 +7,7 @@ ghost use mathlib.Core.Path.{_≡_};
 ghost use Prim.Native.Nat.{_<_};
 ghost use lib.ListN.{length, getD};
 ghost use Rattle.machine.specs.Registers.{machineRegisters, widths};
-ghost use Rattle.entry.specs.Lines.{isDigits, wordEntry, registerEntry, budgetEntry, said, entry};
+ghost use Rattle.entry.specs.Lines.{wordEntry, registerEntry, budgetEntry, said, entry};
 
 // No fit line has more bytes.
 pub const LINE_BYTES: usize = 24;
@@ -24,18 +24,11 @@ pub enum Entry {
     Unfit,
 }
 
-// Whether a field is n digits of a class.
-fn is_digits(class: Class, n: usize, field: &[u8]) -> bool
-    ensures { λ r. ⌜ r ≡ isDigits class n (now (field .entry)) ⌝ }
-{
-    (field.len() == n) & (characters::run_end(field, 0, class) == n)
-}
-
 // A line with a word of the memory.
 fn word_entry(address: &[u8], word: &[u8]) -> Entry
     ensures { λ r. ⌜ r ≡ wordEntry (now (address .entry)) (now (word .entry)) ⌝ }
 {
-    if is_digits(Class::Octal, 4, address) & is_digits(Class::Octal, 4, word) {
+    if image::is_digits(Class::Octal, 4, address) & image::is_digits(Class::Octal, 4, word) {
         let place = constants::digits_value(address, 0, 4, 8);
         let value = constants::digits_value(word, 0, 4, 8);
         Entry::Word(place as usize, value as u16)
@@ -52,7 +45,7 @@ fn register_entry(place: usize, value: &[u8]) -> Entry
     let register = registers::register_at(place);
     let width = register.width;
     let n = registers::digits_of(width);
-    if is_digits(Class::Octal, n, value) {
+    if image::is_digits(Class::Octal, n, value) {
         let v = constants::digits_value(value, 0, n, 8);
         if word::is_narrow(width, v) {
             return Entry::Register(place, v as u16);
@@ -66,7 +59,7 @@ fn budget_entry(value: &[u8]) -> Entry
     ensures { λ r. ⌜ r ≡ budgetEntry (now (value .entry)) ⌝ }
 {
     let n = value.len();
-    if (0 < n) & (n <= BUDGET_DIGITS) & is_digits(Class::Decimal, n, value) {
+    if (0 < n) & (n <= BUDGET_DIGITS) & image::is_digits(Class::Decimal, n, value) {
         let steps = constants::digits_value(value, 0, n, 10);
         if steps <= BUDGET_LIMIT {
             return Entry::Budget(steps);

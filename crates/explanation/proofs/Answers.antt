@@ -37,12 +37,14 @@ use Rattle.pdp8_rows.specs.Text.{shippedText}
 use Rattle.shipped.specs.Claim.{Claim, cyclesOf}
 use Rattle.shipped.proofs.Starts.{every-start}
 use Rattle.shipped.proofs.Agree.{runs-agree}
-use Rattle.desk_last_step.specs.LastStep.{changeLines, lastStep, changeLinesBytes}
+use Rattle.desk_last_step.specs.LastStep.{changeLines, lastStep}
+use Rattle.desk_last_step.specs.Sizes.{changeLinesBytes}
 use Rattle.desk_last_step.proofs.Changes.{unchanged}
 use Rattle.desk_last_step.proofs.Few.{step-few}
 use Rattle.run_lines.specs.Registers.{registerLines, workingRegisters, workingValues}
 use Rattle.run_lines.specs.Rows.{rowLines}
-use Rattle.explanation.specs.Explanation.{placesOf, told, beforeLast, explained, checkedBy, answered, LastStep, pcIn, listedIn}
+use Rattle.explanation.specs.Explanation.{placesOf, told, beforeLast, explained}
+use Rattle.explanation.specs.Answered.{checkedBy, answered, LastStep, pcIn, listedIn}
 use Rattle.explanation.proofs.LastSteps.{steps-within, last-step, no-step}
 
 -- the bytes that tell of a run: the registers after it, its steps, PC and memory before the last and memory after it, the registers of the rows and those that acted

@@ -1,42 +1,36 @@
--- The explanation of what a scanner holds: the ways that it goes, and that after a text it is the text's explanation.
+-- The explanation of what a scanner keeps: the ways that it goes, and that after a text it is the text's explanation.
 -- Assumes nothing.
 use mathlib.Core.Path.{_≡_, refl, sym, ap, _∙_}
-use mathlib.Core.Bool.{Bool, not}
 use mathlib.Core.List.{List}
-use Prim.Native.Nat.{ℕ, zero, suc}
-use native.Mathlib.Omega.{arith}
-use borrow.Author.Tests.{ne-eqb}
-use Rattle.word.specs.Choice.{on, pick}
+use Prim.Native.Nat.{ℕ}
 use Rattle.state.specs.declared.Verdict.{Verdict}
 use Rattle.machine.specs.State.{start, Good}
 use Rattle.machine.specs.Registers.{machineOf}
 use Rattle.emulator.proofs.Starts.{good-checked}
-use Rattle.last_lines.specs.LastLines.{refusedLine}
+use Rattle.last_lines.specs.LastLines.{refusedLine, orRefused}
+use Rattle.last_lines.proofs.Refused.{is-refused, same-unrefused}
 use Rattle.image.specs.Pass.{Countable}
-use Rattle.inquiry.specs.Input.{Inquiry}
-use Rattle.inquiry.specs.Scan.{Scan, unfitLine, scanOf}
-use Rattle.inquiry.proofs.ByLines.{by-lines}
+use Rattle.image.specs.Scan.{Scan, unfitLine, scanOf}
+use Rattle.image.proofs.ByLines.{by-lines}
+use Rattle.inquiry.specs.Input.{Inquiry, asked}
+use Rattle.inquiry.specs.Scan.{asking}
+use Rattle.inquiry.proofs.WordLine.{bounded-asking}
 use Rattle.inquiry.proofs.Sound.{Sound, reached-sound}
-use Rattle.explanation.specs.Explanation.{explained, answerTo, explanation, checkedBy, answered, scanExplanation}
-
-abbrev reply : Inquiry → List ℕ
-reply q = answered (machineOf (q .registers)) (q .memory) (q .budget)
+use Rattle.explanation.specs.Explanation.{answerTo, explanation}
+use Rattle.explanation.specs.Answered.{checkedBy, answered, reply, scanExplanation}
 
 -- n is the first unfit line, or 0
-module _ (s : Scan) (n : ℕ) (u : n ≡ unfitLine s) where
-  abbrev printed : ℕ → List ℕ
-  printed k = pick (on k) (refusedLine k) (reply (s .inquiry))
-
+module _ (s : Scan Inquiry) (n : ℕ) (u : n ≡ unfitLine s) where
   pub print-refused : (n ≡ 0 → ⊥) → scanExplanation s ≡ refusedLine n
   unfolding scanExplanation
-  print-refused h = ap printed (sym u) ∙ ap (λ (t : Bool). pick t (refusedLine n) (reply (s .inquiry))) (ap not (ne-eqb n 0 h))
+  print-refused h = ap (λ (k : ℕ). orRefused k (reply (s .made))) (sym u) ∙ is-refused n _ h
 
-  pub print-answered : n ≡ 0 → scanExplanation s ≡ reply (s .inquiry)
+  pub print-answered : n ≡ 0 → scanExplanation s ≡ reply (s .made)
   unfolding scanExplanation
-  print-answered h = ap printed (sym u ∙ h)
+  print-answered h = ap (λ (k : ℕ). orRefused k (reply (s .made))) (sym u ∙ h)
 
 -- no check turns a sound inquiry down
-sound-answered : (q : Inquiry) → Sound q → reply q ≡ explained (machineOf (q .registers)) (q .memory) (q .budget)
+sound-answered : (q : Inquiry) → Sound q → reply q ≡ answerTo q
 unfolding answered
 sound-answered q d =
     let m = machineOf (q .registers) in
@@ -46,13 +40,11 @@ sound-answered q d =
     ap (λ (v : Verdict). checkedBy v m (q .memory) (q .budget)) (good-checked m (q .memory) (q .budget) good (d .budget))
 
 -- after a text: refused by its first unfit line, else answered as its lines ask
-pub scan-explanation : (text : List ℕ) → Countable text → scanExplanation (scanOf text) ≡ explanation text
-unfolding explanation
+pub scan-explanation : (text : List ℕ) → Countable text → scanExplanation (scanOf asking text) ≡ explanation text
+unfolding explanation scanExplanation
 scan-explanation text h =
-    let s = scanOf text in
-    let holds = by-lines text h in
-    go s _ _ (reached-sound s (record { text = text; is = refl })) (sym (holds .unfit)) (holds .asks)
-  where
-    go : (s : Scan) (n : ℕ) (q : Inquiry) → Sound (s .inquiry) → n ≡ unfitLine s → (n ≡ 0 → s .inquiry ≡ q) → scanExplanation s ≡ answerTo n q
-    go s zero q d u l = print-answered s zero u refl ∙ sound-answered (s .inquiry) d ∙ ap (answerTo zero) (l refl)
-    go s (suc n) q d u l = print-refused s (suc n) u (λ e. omega arith)
+    let s = scanOf asking text in
+    let keeps = by-lines asking bounded-asking text h in
+    let sound = reached-sound s (record { text = text; is = refl }) in
+    ap (λ (n : ℕ). orRefused n (reply (s .made))) (keeps .unfit)
+    ∙ same-unrefused _ _ (answerTo (asked text)) (λ z. sound-answered (s .made) sound ∙ ap answerTo (keeps .makes z))

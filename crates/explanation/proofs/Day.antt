@@ -17,9 +17,9 @@ use Rattle.characters.specs.Ascii.{ascii}
 use Rattle.page.specs.Text.{octal, decimalIn, decimal}
 use Rattle.day_listing.specs.Listing as listing
 use Rattle.last_lines.specs.LastLines.{endLine}
-use Rattle.image.specs.Input.{clear}
+use Rattle.image.specs.Input.{afterLines, clear, firstUnfit}
 use Rattle.characters.specs.Characters as bytes
-use Rattle.characters.specs.Characters.{runEnd, same}
+use Rattle.characters.specs.Characters.{same}
 use Rattle.constants.specs.Constants.{numberAt}
 use Rattle.fields.specs.Fields.{lines, field, hasFields}
 use Rattle.characters.specs.Named.{find}
@@ -30,7 +30,7 @@ use Rattle.pdp8_rows.specs.Text.{shippedText}
 use Rattle.pdp8_rows.proofs.Tree.{tree}
 use Rattle.pdp8_rows.proofs.Accepted.{shipped-is}
 use Rattle.entry.specs.Lines.{wordEntry, registerEntry, budgetEntry, said, entry}
-use Rattle.inquiry.specs.Input.{ready, entered, asked, firstUnfit}
+use Rattle.inquiry.specs.Input.{ready, entered, asked}
 use Rattle.targets.specs.Targets.{passes}
 use Rattle.desk_mnemonics.specs.Mnemonics.{names, namesOf, spaced, mnemonic}
 use Rattle.desk_last_step.specs.LastStep.{lastLine, wordLine, changeLines, lastStep}
@@ -73,5 +73,5 @@ pub day : explanation input
     ++ ascii "1\tdo\t1\ti\tM[PC]\n2\tdo\t1\tlast.pc\tPC\n3\tdo\t1\tPC\tPC + 1\n5\tgo\ti<0:2> Eql #7\topr\nat\topr\t35\n35\tgo\ti<3>\tgroup.2\nat\tgroup.2\t48\n"
     ++ ascii "49\tdo\t1\tskip\t0\n54\tgo\t1\tdecided\nat\tdecided\t59\n62\tdo\ti<10>\tRUN\t0\n63\tgo\t1\tinterrupt\nat\tinterrupt\t65\n"
     ++ ascii "65\tgo\tNot INTERRUPT.ENABLE\trestart\nat\trestart\t70\n"
-unfolding interruptTest firstAddress indexed effective afterIndexing operation reference changed rotated skips group1 group2 operate execute step steps.runFrom steps.run octal decimalIn decimal endLine clear bytes.run runEnd same numberAt lines field hasFields find cycleFrom cycles.runFrom cycles.run shippedText wordEntry registerEntry budgetEntry said entry ready entered asked firstUnfit names namesOf spaced mnemonic lastLine wordLine changeLines lastStep passes rowTexts atLine labelLine rowLine rowLines explanation
-day = let q = asked (lines input) ready in by-tree (machineOf (q .registers)) (q .memory) (q .budget)
+unfolding interruptTest firstAddress indexed effective afterIndexing operation reference changed rotated skips group1 group2 operate execute step steps.runFrom steps.run octal decimalIn decimal endLine clear bytes.run same numberAt lines field hasFields find cycleFrom cycles.runFrom cycles.run shippedText wordEntry registerEntry budgetEntry said entry ready entered afterLines firstUnfit names namesOf spaced mnemonic lastLine wordLine changeLines lastStep passes rowTexts atLine labelLine rowLine rowLines explanation
+day = let q = asked input in by-tree (machineOf (q .registers)) (q .memory) (q .budget)

@@ -20,12 +20,11 @@ use Rattle.machine.specs.State.{State, word, start}
 use Rattle.machine.specs.Registers.{machineOf}
 use Rattle.pdp8.specs.Step.{step}
 use Rattle.pdp8.specs.Run.{run}
-use Rattle.image.specs.Input as image
-use Rattle.image.specs.Input.{linesOf, clear, loaded}
-use Rattle.last_lines.specs.LastLines.{reasonWord, endLine}
-use Rattle.fields.specs.Fields.{lines}
+use Rattle.image.specs.Input.{isWordLine, loaded, firstUnfit}
+use Rattle.last_lines.specs.LastLines.{reasonWord, endLine, orRefused}
+use Rattle.fields.specs.Fields.{Line, lines}
 use Rattle.day_listing.specs.Listing as listing
-use Rattle.day_listing.specs.Listing.{listingOf, runListing, dayListing}
+use Rattle.day_listing.specs.Listing.{runListing, dayListing}
 use Rattle.inquiry.specs.Input.{ready, asked}
 use Rattle.inquiry.proofs.Images.{image-asks}
 use Rattle.explanation.specs.Explanation.{told, explained, answerTo, explanation}
@@ -65,10 +64,13 @@ reason-clean Halted = refl
 reason-clean Spent = refl
 
 -- a run's last line is one line
-end-line-cut : (steps : ℕ) (why : Reason) (text : List ℕ) → linesOf (endLine steps why ++ text) ≡ endLine steps why ∷ linesOf text
+abbrev endBytes : ℕ → Reason → List ℕ
+endBytes steps why = ascii "end\t" ++ decimal steps ++ tab ∷ reasonWord why
+
+end-line-cut : (steps : ℕ) (why : Reason) (text : List ℕ) → lines (endLine steps why ++ text) ≡ record { bytes = endBytes steps why; ended = true } ∷ lines text
 unfolding endLine decimal
 end-line-cut steps why text =
-    cut-first (ascii "end\t" ++ decimal steps ++ tab ∷ reasonWord why) text
+    cut-first (endBytes steps why) text
     (clean-append (ascii "end\t" ++ decimal steps) (tab ∷ reasonWord why)
     (clean-append (ascii "end\t") (decimal steps) refl (decimal-clean (suc steps) steps)) (reason-clean why))
 
@@ -94,55 +96,58 @@ heading-whole = whole-feed (ascii "step\tpc\ti\tlac\trun")
 
 -- ---- the first of some lines, and the last
 
-abbrev pub firstOf : List (List ℕ) → List ℕ
+abbrev pub firstOf : List Line → List ℕ
 firstOf [] = []
-firstOf (l ∷ ls) = l
+firstOf (l ∷ ls) = l .bytes
 
-abbrev pub lastOf : List (List ℕ) → List ℕ
+abbrev pub lastOf : List Line → List ℕ
 lastOf [] = []
-lastOf (l ∷ []) = l
+lastOf (l ∷ []) = l .bytes
 lastOf (l ∷ m ∷ ls) = lastOf (m ∷ ls)
 
-last-one : (ls : List (List ℕ)) (l : List ℕ) → lastOf (ls ++ l ∷ []) ≡ l
+last-one : (ls : List Line) (l : Line) → lastOf (ls ++ l ∷ []) ≡ l .bytes
 last-one [] l = refl
 last-one (a ∷ []) l = refl
 last-one (a ∷ b ∷ ls) l = last-one (b ∷ ls) l
 
 -- ---- a text all of whose lines are an image's
 
-module _ (text : List ℕ) (fit : image.firstUnfit 1 (linesOf text) ≡ 0) where
+module _ (text : List ℕ) (fit : firstUnfit isWordLine 1 (lines text) ≡ 0) where
   abbrev memory : List ℕ
-  memory = loaded (linesOf text) clear
+  memory = loaded text
 
   -- how the run of its memory ends
   abbrev ends : List ℕ
   ends = endLine (run listing.budget (listing.ready memory) .steps) (run listing.budget (listing.ready memory) .reason)
+
+  -- without its LF
+  abbrev end : List ℕ
+  end = endBytes (run listing.budget (listing.ready memory) .steps) (run listing.budget (listing.ready memory) .reason)
 
   abbrev above : List ℕ
   above = listing.heading ++ listing.stepLines listing.budget 0 (listing.ready memory)
 
   listed : dayListing text ≡ above ++ ends
   unfolding dayListing runListing
-  listed = ap (λ (n : ℕ). listingOf n memory) fit
+  listed = ap (λ (n : ℕ). orRefused n (runListing memory)) fit
 
-  listed-last : lastOf (linesOf (dayListing text)) ≡ ends
-  unfolding linesOf
+  listed-last : lastOf (lines (dayListing text)) ≡ end
+  unfolding lines
   listed-last =
       let whole = whole-append listing.heading (listing.stepLines listing.budget 0 (listing.ready memory)) heading-whole (step-lines-whole listing.budget 0 (listing.ready memory)) in
-      let one : linesOf ends ≡ ends ∷ [] = ap linesOf (sym (append-nil ends)) ∙ end-line-cut _ _ [] in
-      ap (λ (t : List ℕ). lastOf (linesOf t)) listed ∙ ap lastOf (whole ends) ∙ ap (λ (ls : List (List ℕ)). lastOf (linesOf above ++ ls)) one
-      ∙ last-one (linesOf above) ends
+      let one : lines ends ≡ record { bytes = end; ended = true } ∷ [] = ap lines (sym (append-nil ends)) ∙ end-line-cut _ _ [] in
+      ap (λ (t : List ℕ). lastOf (lines t)) listed ∙ ap lastOf (whole ends) ∙ ap (λ (ls : List Line). lastOf (lines above ++ ls)) one ∙ last-one (lines above) _
 
   explains : explanation text ≡ explained (machineOf (ready .registers)) memory (ready .budget)
   unfolding explanation
-  explains = let asks = image-asks text fit in ap (λ (n : ℕ). answerTo n (asked (lines text) ready)) (asks .fits) ∙ ap (answerTo 0) (asks .asks)
+  explains = let asks = image-asks text fit in ap (λ (n : ℕ). orRefused n (answerTo (asked text))) (asks .fits) ∙ ap answerTo (asks .asks)
 
-  explained-first : firstOf (linesOf (explanation text)) ≡ ends
+  explained-first : firstOf (lines (explanation text)) ≡ end
   unfolding ready
   explained-first =
       let b = end-first (machineOf (ready .registers)) memory (ready .budget) in
-      ap (λ (t : List ℕ). firstOf (linesOf t)) (explains ∙ b .is) ∙ ap firstOf (end-line-cut _ _ (b .rest))
+      ap (λ (t : List ℕ). firstOf (lines t)) (explains ∙ b .is) ∙ ap firstOf (end-line-cut _ _ (b .rest))
 
   -- the explanation's first line is the listing's last line
-  pub same-line : firstOf (linesOf (explanation text)) ≡ lastOf (linesOf (dayListing text))
+  pub same-line : firstOf (lines (explanation text)) ≡ lastOf (lines (dayListing text))
   same-line = explained-first ∙ sym listed-last

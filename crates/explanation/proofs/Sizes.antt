@@ -10,7 +10,8 @@ use Rattle.state.specs.declared.Reason.{Reason}
 use Rattle.page.proofs.Numbers.{decimal-length}
 use Rattle.last_lines.specs.LastLines.{endLine}
 use Rattle.last_lines.proofs.Sizes.{end-size}
-use Rattle.desk_last_step.specs.LastStep.{lastLine, changeLines, lastStep, changeLinesBytes}
+use Rattle.desk_last_step.specs.LastStep.{lastLine, changeLines, lastStep}
+use Rattle.desk_last_step.specs.Sizes.{changeLinesBytes}
 use Rattle.desk_last_step.proofs.Changes.{last-size}
 
 -- the last line of a run has at most 32: its steps have 64 bits

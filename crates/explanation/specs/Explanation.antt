@@ -1,29 +1,19 @@
 -- What `explain` prints, from the bytes that it reads to the bytes that it writes. The sentences quoted are README's, of "Explain a run", and document 01's.
 -- Assumes nothing.
-use mathlib.Core.Path.{_≡_}
-use mathlib.Core.List.{List, [], _++_}
-use Prim.Native.Nat.{ℕ, zero, suc, _-_, _<_, _≤_}
+use mathlib.Core.List.{List, _++_}
+use Prim.Native.Nat.{ℕ, _-_}
 use lib.ListN.{length, replicate}
-use Rattle.word.specs.Choice.{on, pick}
-use Rattle.state.specs.Checks.{checkState}
-use Rattle.state.specs.declared.Verdict.{Verdict}
-use Rattle.state.specs.declared.Verdict.the-variants.{Fit, Unfit}
 use Rattle.machine.specs.declared.Machine.{Machine}
 use Rattle.machine.specs.State.{State, start, registers}
-use Rattle.machine.specs.Registers.{machineRegisters, widths, values, machineOf}
+use Rattle.machine.specs.Registers.{machineRegisters, values, machineOf}
 use Rattle.pdp8.specs.Run.{Run, run}
-use Rattle.emulator.specs.declared.Answer as emulator
-use Rattle.emulator.specs.declared.Answer.the-variants as emulated
-use Rattle.value.specs.Fitting.{registerPlaces}
 use Rattle.cycles.specs.Run as cycles
-use Rattle.last_lines.specs.LastLines.{endLine, refusedLine}
+use Rattle.last_lines.specs.LastLines.{endLine, orRefused}
 use Rattle.fields.specs.Fields.{lines}
-use Rattle.evaluator.specs.declared.Outcome.{Outcome}
-use Rattle.evaluator.specs.declared.Outcome.the-variants.{Ran, Unread, Refused}
 use Rattle.shipped.specs.Claim.{cyclesOf}
-use Rattle.inquiry.specs.Input.{Inquiry, ready, asked, firstUnfit}
-use Rattle.inquiry.specs.Scan.{Scan, unfitLine}
-use Rattle.desk_last_step.specs.LastStep.{changeLines, lastStep, changeLinesBytes}
+use Rattle.image.specs.Input.{firstUnfit}
+use Rattle.inquiry.specs.Input.{Inquiry, isFitLine, asked}
+use Rattle.desk_last_step.specs.LastStep.{lastStep}
 use Rattle.run_lines.specs.Registers.{registerLines, workingRegisters, workingValues}
 use Rattle.run_lines.specs.Rows.{rowLines}
 
@@ -50,41 +40,10 @@ unfoldable pub explained : Machine → List ℕ → ℕ → List ℕ
 explained m memory budget =
     told (run budget (start m memory)) (beforeLast m memory (run budget (start m memory) .steps)) (cyclesOf (placesOf m) memory budget)
 
--- "Any other line is unfit: the output is then only `refused`, TAB, the first such line's number": for that number, or 0, and what is asked
-abbrev pub answerTo : ℕ → Inquiry → List ℕ
-answerTo zero q = explained (machineOf (q .registers)) (q .memory) (q .budget)
-answerTo (suc n) q = refusedLine (suc n)
+-- and of what is asked
+abbrev pub answerTo : Inquiry → List ℕ
+answerTo q = explained (machineOf (q .registers)) (q .memory) (q .budget)
 
--- the output for an input
+-- the output for an input: "Any other line is unfit: the output is then only `refused`, TAB, the first such line's number"
 unfoldable pub explanation : List ℕ → List ℕ
-explanation text = answerTo (firstUnfit 1 (lines text)) (asked (lines text) ready)
-
--- the output by a state check's verdict. No text leaves another state than a fit one; another has no run, and nothing is printed.
-abbrev pub checkedBy : Verdict → Machine → List ℕ → ℕ → List ℕ
-checkedBy Fit m memory budget = explained m memory budget
-checkedBy (Unfit why) m memory budget = []
-
-unfoldable pub answered : Machine → List ℕ → ℕ → List ℕ
-answered m memory budget = checkedBy (checkState widths (values m) memory budget) m memory budget
-
--- the output where the input ends, for whatever is held then. The law `scan-explanation` says that after a text this is the text's.
-unfoldable pub scanExplanation : Scan → List ℕ
-scanExplanation s =
-    pick (on (unfitLine s)) (refusedLine (unfitLine s)) (answered (machineOf (s .inquiry .registers)) (s .inquiry .memory) (s .inquiry .budget))
-
--- PC in an answer of the emulator
-abbrev pub pcIn : Machine → emulator.Answer → ℕ
-pcIn m (emulated.Ran after why steps) = after .pc
-pcIn m (emulated.Refused why) = m .pc
-
--- how many rows an outcome of the evaluator lists: "A refusal reports .. 0 rows"
-abbrev pub listedIn : Outcome → ℕ
-listedIn (Ran why steps rows) = rows
-listedIn (Unread fault line) = 0
-listedIn (Refused why) = 0
-
--- what holds of PC and memory before a step and of memory after it: the address is one of memory, and the lines of the changed words are few
-pub record LastStep (pc : ℕ) (before after : List ℕ) : Type 0 where
-  pub inside : pc < length before
-  pub whole : length after ≡ length before
-  pub few : length (changeLines 0 before after) ≤ changeLinesBytes
+explanation text = orRefused (firstUnfit isFitLine 1 (lines text)) (answerTo (asked text))

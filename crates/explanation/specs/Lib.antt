@@ -1,1 +1,2 @@
 pub mod Explanation
+pub mod Answered

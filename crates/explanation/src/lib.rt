@@ -17,16 +17,17 @@ ghost use lib.ListN.{length, take};
 ghost use Rattle.word.specs.Choice.{on, pick};
 ghost use Rattle.state.specs.declared.Reason.the-variants.{Halted, Spent};
 ghost use Rattle.machine.specs.Registers.{machineRegisters, values};
-ghost use Rattle.page.specs.Written.{Page};
+ghost use Rattle.page.specs.Page.{Page};
 ghost use Rattle.last_lines.specs.LastLines.{endLine};
 ghost use Rattle.emulator.specs.Emulate as emulation;
 ghost use Rattle.evaluator.specs.Evaluate.{report};
 ghost use Rattle.shipped.specs.Claim.{Together};
-ghost use Rattle.inquiry.specs.Scan.{held};
+ghost use Rattle.inquiry.specs.Scan.{kept};
 ghost use Rattle.desk_last_step.specs.LastStep.{lastStep};
 ghost use Rattle.run_lines.specs.Registers.{registerLines, workingRegisters, workingValues};
 ghost use Rattle.run_lines.specs.Rows.{rowLines};
-ghost use Rattle.explanation.specs.Explanation.{placesOf, pcIn, LastStep, answered as Explanation·answered, explanation as Explanation·explanation, scanExplanation, listedIn};
+ghost use Rattle.explanation.specs.Explanation.{placesOf, explanation as Explanation·explanation};
+ghost use Rattle.explanation.specs.Answered.{pcIn, LastStep, answered as Answered·answered, scanExplanation, listedIn};
 
 // A machine's registers, as the evaluator takes them.
 fn places_of(m: Machine) -> Registers
@@ -122,7 +123,7 @@ fn answered(
     budget: u64,
     page: &mut [u8; PAGE_BYTES],
 ) -> usize
-    ensures { λ r. ⌜ Page (Explanation·answered m (now (memory .entry)) budget) (now (page .entry)) (now (page .exit)) r ⌝ }
+    ensures { λ r. ⌜ Page (Answered·answered m (now (memory .entry)) budget) (now (page .entry)) (now (page .exit)) r ⌝ }
 {
     let mut first = *memory;
     let mut second = *memory;
@@ -148,7 +149,7 @@ fn answered(
 // Writes the explanation of a text that has been scanned to the start of a page, and answers how many bytes it has: none where
 // registers, budget or memory are unfit for a run, which no text leaves.
 pub fn explanation(memory: &[u16; MEMORY_WORDS], s: Scanner, page: &mut [u8; PAGE_BYTES]) -> usize
-    ensures { λ r. ⌜ Page (scanExplanation (held s (now (memory .entry)))) (now (page .entry)) (now (page .exit)) r ⌝ }
+    ensures { λ r. ⌜ Page (scanExplanation (kept s (now (memory .entry)))) (now (page .entry)) (now (page .exit)) r ⌝ }
 {
     let refused = inquiry::unfit_line(s);
     if refused != 0 {

@@ -1,6 +1,8 @@
 pub mod Pass
 pub mod Read
-pub mod Form
-pub mod Cut
+pub mod Digits
+pub mod WordLine
+pub mod Scanning
 pub mod ByLines
+pub mod Cut
 pub mod Sound

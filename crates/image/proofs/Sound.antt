@@ -1,52 +1,57 @@
--- What the scanner loads is an acceptable memory, which the machine runs on.
+-- What holds of what a scanner makes: whatever every fit line keeps. So the memory that an image loads is acceptable, and the machine runs on it.
 -- Assumes nothing.
-use mathlib.Core.Path.{_≡_, refl, sym, subst}
-use mathlib.Core.Bool.{Bool, true, false}
+use mathlib.Core.Path.{_≡_, sym, subst}
+use mathlib.Core.Bool.{true}
 use mathlib.Core.List.{List, [], _∷_}
-use Prim.Native.Nat.{ℕ, _^_, _<_}
-use native.Mathlib.Nat.{mod-lt}
+use Prim.Native.Nat.{ℕ}
 use native.Mathlib.Omega.{arith}
-use lib.ListN.{length-replicate}
+use lib.Dec.{eqb, ltb}
+use lib.ListN.{length, length-replicate}
+use Rattle.laws.proofs.Tests.{by-case}
 use Rattle.word.specs.Choice.{on}
-use Rattle.word.specs.Word.{wordBits}
 use Rattle.state.specs.Limits.{memoryWords}
 use Rattle.state.specs.Acceptable.{Acceptable}
 use Rattle.state.proofs.Accepted.{zeros, store-acceptable}
-use lib.Dec.{ltb}
-use Rattle.image.specs.Input.{form, clear}
+use Rattle.characters.specs.Ascii.{lineFeed}
+use Rattle.fields.specs.Fields.{field}
+use Rattle.image.specs.Input.{octalWord, stored, clear}
 use Rattle.image.specs.Pass.{pass}
-use Rattle.image.specs.Scan.{Scan, accepted, scanByte, begun, Reached}
+use Rattle.image.specs.Scan.{Reading, Scan, ended, scanByte, begun, Reached, words}
+use Rattle.image.proofs.WordLine.{word-line, octal-word-lt}
+
+-- what holds before the first line, and is kept by every fit line, holds after each text
+module _ {A : Type 0} (r : Reading A) (P : A → Type 0) (keeps : (line : List ℕ) → r .fits line ≡ true → (a : A) → P a → P (r .enter line a)) where
+  abbrev Made : Scan A → Type 0
+  Made s = P (s .made)
+
+  ends : (s : Scan A) → Made s → Made (ended r s)
+  unfolding ended
+  ends s d = by-case Made (r .fits (s .part)) (λ t. keeps (s .part) t (s .made) d) (λ t. d)
+
+  byte : (s : Scan A) (b : ℕ) → Made s → Made (scanByte r s b)
+  unfolding scanByte
+  byte s b d =
+      by-case Made (on (s .refused))
+      (λ t. d)
+      (λ t. by-case Made (eqb b lineFeed) (λ u. ends s d) (λ u. by-case Made (ltb (length (s .part)) (r .most)) (λ v. d) (λ v. d)))
+
+  after : (s : Scan A) (text : List ℕ) → Made s → Made (pass (scanByte r) s text)
+  unfolding pass
+  after s [] d = d
+  after s (b ∷ text) d = after (scanByte r s b) text (byte s b d)
+
+  pub reached-keeps : P (r .start) → (s : Scan A) → Reached r s → P (s .made)
+  reached-keeps d s reached = subst Made (sym (reached .is)) (after (begun r) (reached .text) d)
+
+-- ---- the image's memory
 
 pub clear-acceptable : Acceptable clear
 unfolding clear
 clear-acceptable = record { size = length-replicate {A = ℕ} memoryWords 0; words = λ k. rw (zeros memoryWords k) (omega arith) }
 
--- the scanner's word has 12 bits, and so has every word of the memory
-record Sound (s : Scan) : Type 0 where
-  word : s .scanner .word < 2 ^ wordBits
-  memory : Acceptable (s .memory)
-
--- a byte that may stand at the column keeps it so, by the three tests of the column
-accepts : (s : Scan) (b : ℕ) (t u v : Bool) → ltb (s .scanner .column) 4 ≡ t → ltb (s .scanner .column) 5 ≡ u → ltb (s .scanner .column) 9 ≡ v
-    → Sound s → Sound (accepted s b)
-unfolding accepted
-accepts s b true u v e f g d = rw (e, accepted) (record { word = d .word; memory = d .memory })
-accepts s b false true v e f g d = rw (e, f, accepted) (record { word = d .word; memory = d .memory })
-accepts s b false false true e f g d = rw (e, f, g, accepted) (record { word = mod-lt _ (omega arith); memory = d .memory })
-accepts s b false false false e f g d = rw (e, f, g, accepted) (record { word = omega arith; memory = store-acceptable _ (d .word) (d .memory) })
-
--- and so do any byte and any text
-byte : (s : Scan) (b : ℕ) (t u : Bool) → on (s .scanner .refused) ≡ t → form (s .scanner .column) b ≡ u → Sound s → Sound (scanByte s b)
-unfolding scanByte
-byte s b true u e f d = rw (e, scanByte) d
-byte s b false true e f d = rw (e, f, scanByte) (accepts s b _ _ _ refl refl refl d)
-byte s b false false e f d = rw (e, f, scanByte) (record { word = d .word; memory = d .memory })
-
-after : (s : Scan) (text : List ℕ) → Sound s → Sound (pass scanByte s text)
-unfolding pass
-after s [] d = d
-after s (b ∷ text) d = after (scanByte s b) text (byte s b _ _ refl refl d)
-
-pub reached-acceptable : (s : Scan) → Reached s → Acceptable (s .memory)
-reached-acceptable s r =
-    subst (λ (x : Scan). Acceptable (x .memory)) (sym (r .is)) (after begun (r .text) (record { word = omega arith; memory = clear-acceptable }) .memory)
+pub reached-acceptable : (s : Scan (List ℕ)) → Reached words s → Acceptable (s .made)
+unfolding stored
+reached-acceptable s reached =
+    reached-keeps words Acceptable
+    (λ line t memory d. store-acceptable (octalWord (field 0 line)) (octal-word-lt (field 1 line) (word-line line t .word)) d)
+    clear-acceptable s reached

@@ -1,82 +1,82 @@
--- The scanner: what is kept of a text while it is read byte by byte. A reader need not believe these definitions: the law `by-lines`
+-- The scanner: what is kept of a text while it is read byte by byte, whatever its lines say. A reader need not believe these definitions: the law `by-lines`
 -- shows that they come to what Input says by lines.
 -- Assumes nothing.
-use mathlib.Core.List.{List}
+use mathlib.Core.List.{List, [], _∷_, _++_}
 use mathlib.Core.Bool.{Bool, true, false}
-use Prim.Native.Nat.{ℕ, _+_, _*_, _%_, _^_}
-use lib.ListN.{set}
-use lib.Dec.{ltb}
-use lib.IntN.{ℤ}
+use Prim.Native.Nat.{ℕ}
+use lib.ListN.{length, take}
+use lib.Dec.{eqb, ltb}
 use Rattle.word.specs.Choice.{on, pick}
-use Rattle.word.specs.Word.{wordBits}
-use Rattle.state.specs.Limits.{memoryWords}
-use Rattle.image.specs.Input.{form, clear}
-use Rattle.image.specs.Pass.{pass, Passed, Left, nextLine}
-use Rattle.image.specs.Read.{AfterRead}
+use Rattle.characters.specs.Ascii.{lineFeed}
+use Rattle.image.specs.Pass.{pass, Left, nextLine}
+use Rattle.image.specs.Input.{isWordLine, stored, clear}
 use Rattle.image.specs.declared.Scanner.{Scanner}
 
--- the scanner and the memory that it loads
-pub record Scan : Type 0 where
-  pub scanner : Scanner
-  pub memory : List ℕ
+-- how lines are read: the most bytes that a fit one has, which ones fit, what a fit one makes of what was kept before it, and what is kept before the first
+pub record Reading (A : Type 0) : Type 0 where
+  pub most : ℕ
+  pub fits : List ℕ → Bool
+  pub enter : List ℕ → A → A
+  pub start : A
 
-abbrev pub held : Scanner → List ℕ → Scan
-held s memory = record { scanner = s; memory = memory }
+-- the line's number, the bytes read of it, the first unfit line or 0, and what the lines before it have made
+pub record Scan (A : Type 0) : Type 0 where
+  pub line : ℕ
+  pub part : List ℕ
+  pub refused : ℕ
+  pub made : A
 
--- at the start of line n
-abbrev pub fresh : ℕ → Scanner
-fresh n = record { line = n; column = 0; address = 0; word = 0; refused = 0 }
+-- with one byte more of the line, with the line refused, and at the next line
+abbrev pub longer : {A : Type 0} → Scan A → ℕ → Scan A
+longer s b = record { line = s .line; part = s .part ++ b ∷ []; refused = s .refused; made = s .made }
 
--- a word of four octal digits with one more at its right end
-abbrev pub shifted : ℕ → ℕ → ℕ
-shifted x b = (x * 8 + b % 8) % 2 ^ wordBits
+abbrev pub refusing : {A : Type 0} → Scan A → Scan A
+refusing s = record { line = s .line; part = s .part; refused = s .line; made = s .made }
 
--- a byte that may stand at the column: columns 0 to 3 the address, 4 the TAB, 5 to 8 the word, 9 the LF
-unfoldable pub accepted : Scan → ℕ → Scan
-accepted s b =
-    let at = s .scanner in
-    elim (ltb (at .column) 4) [
-      | true ↦ held (record { line = at .line; column = at .column + 1; address = shifted (at .address) b; word = at .word; refused = at .refused }) (s .memory)
-      | false ↦ elim (ltb (at .column) 5) [
-        | true ↦ held (record { line = at .line; column = at .column + 1; address = at .address; word = at .word; refused = at .refused }) (s .memory)
-        | false ↦ elim (ltb (at .column) 9) [
-          | true ↦ held (record { line = at .line; column = at .column + 1; address = at .address; word = shifted (at .word) b; refused = at .refused }) (s .memory)
-          | false ↦ held (fresh (nextLine (at .line))) (set (s .memory) (at .address % memoryWords) (at .word))
-        ]
-      ]
-    ]
+abbrev pub atNextLine : {A : Type 0} → A → Scan A → Scan A
+atNextLine a s = record { line = nextLine (s .line); part = []; refused = s .refused; made = a }
 
--- a byte that may not
-abbrev pub refusing : Scanner → Scanner
-refusing s = record { line = s .line; column = s .column; address = s .address; word = s .word; refused = s .line }
+-- at the line's LF
+unfoldable pub ended : {A : Type 0} → Reading A → Scan A → Scan A
+ended r s = elim (r .fits (s .part)) [ true ↦ atNextLine (r .enter (s .part) (s .made)) s | false ↦ refusing s ]
 
--- after a refused line nothing is read any more
-unfoldable pub scanByte : Scan → ℕ → Scan
-scanByte s b =
-    elim (on (s .scanner .refused)) [
+-- after a refused line nothing is read any more; too long a line is refused
+unfoldable pub scanByte : {A : Type 0} → Reading A → Scan A → ℕ → Scan A
+scanByte r s b =
+    elim (on (s .refused)) [
       | true ↦ s
-      | false ↦ elim (form (s .scanner .column) b) [ true ↦ accepted s b | false ↦ held (refusing (s .scanner)) (s .memory) ]
+      | false ↦
+          elim (eqb b lineFeed) [
+            | true ↦ ended r s
+            | false ↦ elim (ltb (length (s .part)) (r .most)) [ true ↦ longer s b | false ↦ refusing s ]
+          ]
     ]
 
 -- before the first byte
-abbrev pub begun : Scan
-begun = held (fresh 1) clear
+abbrev pub begun : {A : Type 0} → Reading A → Scan A
+begun r = record { line = 1; part = []; refused = 0; made = r .start }
 
--- the scanner and the memory after a text
-abbrev pub scanOf : List ℕ → Scan
-scanOf text = pass scanByte begun text
+-- after a text
+abbrev pub scanOf : {A : Type 0} → Reading A → List ℕ → Scan A
+scanOf r text = pass (scanByte r) (begun r) text
+
+-- after some text
+abbrev pub Reached : {A : Type 0} → Reading A → Scan A → Type 0
+Reached r s = Left (scanByte r) (begun r) s
 
 -- the first unfit line, where the text ends here: a line that has begun lacks its LF
-abbrev pub unfitLine : Scanner → ℕ
-unfitLine s = pick (on (s .refused)) (s .refused) (pick (on (s .column)) (s .line) 0)
+abbrev pub unfitLine : {A : Type 0} → Scan A → ℕ
+unfitLine s = pick (on (s .refused)) (s .refused) (pick (on (length (s .part))) (s .line) 0)
 
--- what reading a chunk comes to, and what some text leaves
-abbrev pub Scanned : Scan → List ℕ → Scan → Type 0
-Scanned s chunk t = Passed scanByte begun s chunk t
+-- ---- the image's lines
 
-abbrev pub Reached : Scan → Type 0
-Reached s = Left scanByte begun s
+-- no fit line has more bytes: the law `long-unfit`
+abbrev pub lineBytes : ℕ
+lineBytes = 9
 
--- and what a read comes to
-abbrev pub Turned : Scan → ℤ → List ℕ → Scan → Bool → Bool → Type 0
-Turned s got buffer t more failed = AfterRead scanByte begun s got buffer t more failed
+abbrev pub words : Reading (List ℕ)
+words = record { most = lineBytes; fits = isWordLine; enter = stored; start = clear }
+
+-- what a scanner keeps, and the memory that it loads
+abbrev pub kept : Scanner → List ℕ → Scan (List ℕ)
+kept s memory = record { line = s .line; part = take (s .size) (s .bytes); refused = s .refused; made = memory }

@@ -9,8 +9,11 @@ ghost use mathlib.Core.Path.{_≡_};
 ghost use mathlib.Core.List.{List, []};
 ghost use Prim.Native.Nat.{ℕ};
 ghost use lib.ListN.{set};
-ghost use Rattle.entry.specs.Lines.{isUnfit};
-ghost use Rattle.inquiry.specs.Scan.{held, refusing, entering, atNextLine, ended, scanByte, scanOf, unfitLine, Scanned, Turned};
+ghost use Rattle.image.specs.Pass.{Passed};
+ghost use Rattle.image.specs.Read.{AfterRead};
+ghost use Rattle.image.specs.Scan.{refusing, atNextLine, ended, scanByte, begun, scanOf, unfitLine};
+ghost use Rattle.entry.specs.Lines.{isFit};
+ghost use Rattle.inquiry.specs.Scan.{asking, kept, entering};
 
 // The place in the input: the line's number from 1 and the bytes read of it; the machine registers and the budget so far; and the
 // first line that was refused, or 0.
@@ -24,27 +27,27 @@ pub struct Scanner {
 }
 
 // The scanner after a read, whether the input may go on, and whether the read failed.
-pub struct Turn {
+pub struct Progress {
     pub scanner: Scanner,
     pub more: bool,
     pub failed: bool,
 }
 
-// Whether a line is unfit, by what it says.
-fn is_unfit(e: Entry) -> bool
-    ensures { λ r. ⌜ r ≡ isUnfit e ⌝ }
+// Whether a line is fit, by what it says.
+fn is_fit(e: Entry) -> bool
+    ensures { λ r. ⌜ r ≡ isFit e ⌝ }
 {
     match e {
-        Entry::Word(_, _) => false,
-        Entry::Register(_, _) => false,
-        Entry::Budget(_) => false,
-        Entry::Unfit => true,
+        Entry::Word(_, _) => true,
+        Entry::Register(_, _) => true,
+        Entry::Budget(_) => true,
+        Entry::Unfit => false,
     }
 }
 
 // The line is unfit.
 fn refused(s: Scanner) -> Scanner
-    ensures { λ r. ⌜ ((memory : List ℕ) → held r memory ≡ refusing (held s memory)) ⌝ }
+    ensures { λ r. ⌜ ((memory : List ℕ) → kept r memory ≡ refusing (kept s memory)) ⌝ }
 {
     let mut next = s;
     next.refused = s.line;
@@ -53,7 +56,7 @@ fn refused(s: Scanner) -> Scanner
 
 // At the start of the next line.
 fn next_line(s: Scanner) -> Scanner
-    ensures { λ r. ⌜ ((memory : List ℕ) → held r memory ≡ atNextLine (held s memory)) ⌝ }
+    ensures { λ r. ⌜ ((memory : List ℕ) → kept r memory ≡ atNextLine (kept s memory .made) (kept s memory)) ⌝ }
 {
     let mut next = s;
     next.line = std::num::wrapping_add_u64(s.line, 1);
@@ -72,7 +75,7 @@ fn load(memory: &mut [u16], address: usize, word: u16)
 
 // What a line says, entered. A place past the last is none.
 fn entered(memory: &mut [u16; MEMORY_WORDS], s: Scanner, e: Entry) -> Scanner
-    ensures { λ r. ⌜ held r (now (memory .exit)) ≡ entering e (held s (now (memory .entry))) ⌝ }
+    ensures { λ r. ⌜ kept r (now (memory .exit)) ≡ entering e (kept s (now (memory .entry))) ⌝ }
 {
     let mut next = s;
     match e {
@@ -94,19 +97,19 @@ fn entered(memory: &mut [u16; MEMORY_WORDS], s: Scanner, e: Entry) -> Scanner
 
 // The scanner and the memory after the line's LF.
 fn end_line(memory: &mut [u16; MEMORY_WORDS], s: Scanner) -> Scanner
-    ensures { λ r. ⌜ held r (now (memory .exit)) ≡ ended (held s (now (memory .entry))) ⌝ }
+    ensures { λ r. ⌜ kept r (now (memory .exit)) ≡ ended asking (kept s (now (memory .entry))) ⌝ }
 {
     let buffer = s.bytes;
     let e = entry::entry_of(characters::part(&buffer, 0, s.size));
-    if is_unfit(e) {
-        return refused(s);
+    if is_fit(e) {
+        return next_line(entered(memory, s, e));
     }
-    next_line(entered(memory, s, e))
+    refused(s)
 }
 
 // The scanner and the memory after one more byte.
 fn scan_byte(memory: &mut [u16; MEMORY_WORDS], s: Scanner, b: u8) -> Scanner
-    ensures { λ r. ⌜ held r (now (memory .exit)) ≡ scanByte (held s (now (memory .entry))) b ⌝ }
+    ensures { λ r. ⌜ kept r (now (memory .exit)) ≡ scanByte asking (kept s (now (memory .entry))) b ⌝ }
 {
     if s.refused != 0 {
         return s;
@@ -126,7 +129,7 @@ fn scan_byte(memory: &mut [u16; MEMORY_WORDS], s: Scanner, b: u8) -> Scanner
 
 // A cleared memory, and the scanner of an empty text.
 pub fn begin(memory: &mut [u16; MEMORY_WORDS]) -> Scanner
-    ensures { λ r. ⌜ held r (now (memory .exit)) ≡ scanOf [] ⌝ }
+    ensures { λ r. ⌜ kept r (now (memory .exit)) ≡ scanOf asking [] ⌝ }
 {
     *memory = [0; MEMORY_WORDS];
     let start = Machine {
@@ -149,7 +152,7 @@ pub fn begin(memory: &mut [u16; MEMORY_WORDS]) -> Scanner
 
 // The scanner and the memory after the bytes of a chunk: those of a text that goes on with it.
 pub fn scanned(memory: &mut [u16; MEMORY_WORDS], s: Scanner, chunk: &[u8]) -> Scanner
-    ensures { λ r. ⌜ Scanned (held s (now (memory .entry))) (now (chunk .entry)) (held r (now (memory .exit))) ⌝ }
+    ensures { λ r. ⌜ Passed (scanByte asking) (begun asking) (kept s (now (memory .entry))) (now (chunk .entry)) (kept r (now (memory .exit))) ⌝ }
 {
     let mut at = s;
     let mut i = 0;
@@ -161,12 +164,18 @@ pub fn scanned(memory: &mut [u16; MEMORY_WORDS], s: Scanner, chunk: &[u8]) -> Sc
 }
 
 // The scanner and the memory after a read that answered `got` and left the buffer as it is: after the bytes that were read, and no others.
-pub fn after_read(memory: &mut [u16; MEMORY_WORDS], s: Scanner, got: isize, buffer: &[u8]) -> Turn
-    ensures { λ r. ⌜ Turned (held s (now (memory .entry))) got (now (buffer .entry)) (held (r .scanner) (now (memory .exit))) (r .more) (r .failed) ⌝ }
+pub fn after_read(
+    memory: &mut [u16; MEMORY_WORDS],
+    s: Scanner,
+    got: isize,
+    buffer: &[u8],
+) -> Progress
+    ensures { λ r. ⌜ AfterRead (scanByte asking) (begun asking) (kept s (now (memory .entry))) got (now (buffer .entry)) (kept (r .scanner) (now (memory .exit)))
+        (r .more) (r .failed) ⌝ }
 {
     let n = io::count(got, buffer);
     let next = scanned(memory, s, &buffer[..n]);
-    Turn {
+    Progress {
         scanner: next,
         more: got > 0,
         failed: got < 0,
@@ -175,7 +184,7 @@ pub fn after_read(memory: &mut [u16; MEMORY_WORDS], s: Scanner, got: isize, buff
 
 // The number of the first unfit line of a text that ends here, or 0: a line that has begun lacks its LF.
 pub fn unfit_line(s: Scanner) -> u64
-    ensures { λ r. ⌜ r ≡ unfitLine (held s []) ⌝ }
+    ensures { λ r. ⌜ r ≡ unfitLine (kept s []) ⌝ }
 {
     if s.refused != 0 {
         s.refused

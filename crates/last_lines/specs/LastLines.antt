@@ -1,7 +1,7 @@
 -- The last line of a run, and the one line of a refused text.
 -- Assumes nothing.
 use mathlib.Core.List.{List, [], _∷_, _++_}
-use Prim.Native.Nat.{ℕ}
+use Prim.Native.Nat.{ℕ, zero, suc}
 use Rattle.state.specs.declared.Reason.{Reason}
 use Rattle.state.specs.declared.Reason.the-variants.{Halted, Spent}
 use Rattle.characters.specs.Ascii.{ascii, tab, lineFeed}
@@ -19,3 +19,8 @@ endLine steps reason = ascii "end\t" ++ decimal steps ++ tab ∷ reasonWord reas
 -- "the output is only `refused`, TAB, the first such line's number"
 unfoldable pub refusedLine : ℕ → List ℕ
 refusedLine n = ascii "refused\t" ++ decimal n ++ lineFeed ∷ []
+
+-- "If any line is unfit": by the first such line's number, or 0, and the output where none is
+abbrev pub orRefused : ℕ → List ℕ → List ℕ
+orRefused zero output = output
+orRefused (suc n) output = refusedLine (suc n)

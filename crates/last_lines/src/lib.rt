@@ -8,7 +8,8 @@ ghost use lib.ListN.{length};
 ghost use Rattle.word.specs.Choice.{on, pick};
 ghost use Rattle.state.specs.declared.Reason.the-variants.{Halted, Spent};
 ghost use Rattle.page.specs.Text.{decimal};
-ghost use Rattle.page.specs.Written.{Written, Page};
+ghost use Rattle.page.specs.Written.{Written};
+ghost use Rattle.page.specs.Page.{Page};
 ghost use Rattle.last_lines.specs.LastLines.{endLine, refusedLine};
 
 // The last line of a run: it halted where RUN is 0, else its budget is spent. Beside the digits it has at most 12 bytes.

@@ -8,7 +8,8 @@ use native.Mathlib.Nat.{add-zero, zero-add, add-assoc}
 use lib.ListN.{length, drop, length-append}
 use lib.Seq.{sets, sets-eq, length-sets}
 use Rattle.laws.proofs.Lists.{sets-append}
-use Rattle.page.specs.Written.{Written, Page}
+use Rattle.page.specs.Written.{Written}
+use Rattle.page.specs.Page.{Page}
 
 pub written-none : (page : List ℕ) (at : ℕ) → Written [] page at page at
 written-none page at = record { page = refl; place = sym (add-zero at) }

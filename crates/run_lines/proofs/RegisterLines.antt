@@ -17,7 +17,8 @@ use Rattle.page.specs.Written.{Written}
 use Rattle.page.proofs.Numbers.{octal-length}
 use Rattle.declaration.specs.Rows.{Description}
 use Rattle.pdp8_rows.proofs.Accepted.{shipped-is}
-use Rattle.run_lines.specs.Registers.{registerLine, registerLines, workingRegisters, workingValues, registerLinesBytes, workingLinesBytes}
+use Rattle.run_lines.specs.Registers.{registerLine, registerLines, workingRegisters, workingValues}
+use Rattle.run_lines.specs.Sizes.{registerLinesBytes, workingLinesBytes}
 
 register-size : (name : List ℕ) (n value : ℕ) → length (name ++ tab ∷ octal n value ++ lineFeed ∷ []) ≡ length name + n + 2
 register-size name n value = let digits = octal-length n value in simp length-append (omega arith)

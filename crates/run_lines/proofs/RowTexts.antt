@@ -21,7 +21,8 @@ use Rattle.fields.proofs.Lines.{first-line}
 use Rattle.laws.proofs.Joined.{and-left, and-right}
 use Rattle.pdp8_rows.specs.Text.{shippedText}
 use Rattle.targets.specs.Targets.{isRow, passes}
-use Rattle.run_lines.specs.Rows.{rowTexts, rowOf, isGo, labelOf, rowBelow, atLine, labelLine, rowLine, rowLines, labelLineBytes, rowLineBytes}
+use Rattle.run_lines.specs.Rows.{rowTexts, rowOf, isGo, labelOf, rowBelow, atLine, labelLine, rowLine, rowLines}
+use Rattle.run_lines.specs.Sizes.{labelLineBytes, rowLineBytes}
 
 -- ---- one line
 

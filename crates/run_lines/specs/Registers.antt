@@ -26,14 +26,3 @@ workingRegisters = drop (length machineRegisters) (shipped .registers)
 -- their values among those of a description's registers
 abbrev pub workingValues : List ℕ → List ℕ
 workingValues values = drop (length machineRegisters) values
-
--- the bytes of the six lines of the machine registers, and of the four of the working registers
-abbrev pub registerLinesBytes : ℕ
-registerLinesBytes = 77
-
-abbrev pub workingLinesBytes : ℕ
-workingLinesBytes = 37
-
--- the bytes of a page: the longest explanation has fewer, as the last line of a run has at most 32, its last step 198, the registers 114, and 128 rows at most 71 each
-abbrev pub pageBytes : ℕ
-pageBytes = 16384

@@ -2,12 +2,11 @@
 -- Assumes nothing.
 use mathlib.Core.List.{List, [], _∷_, _++_}
 use mathlib.Core.Bool.{Bool, true, false}
-use Prim.Native.Nat.{ℕ, suc, _+_, _-_, _*_, _≤_}
+use Prim.Native.Nat.{ℕ, suc, _-_}
 use lib.ListN.{getD}
 use Rattle.word.specs.Choice.{pick}
 use Rattle.characters.specs.Ascii.{ascii, tab, lineFeed}
 use Rattle.page.specs.Text.{decimal}
-use Rattle.page.specs.Written.{Written}
 use Rattle.characters.specs.Characters.{same}
 use Rattle.fields.specs.Fields.{Line, lines, field}
 use Rattle.declaration.specs.Lines.{goWord}
@@ -57,15 +56,3 @@ rowLine k = decimal k ++ tab ∷ rowOf k shippedText ++ lineFeed ∷ [] ++ label
 unfoldable pub rowLines : List ℕ → List ℕ
 rowLines [] = []
 rowLines (k ∷ ks) = rowLine k ++ rowLines ks
-
--- the most bytes that the line of a label has, and a row's line with it
-abbrev pub labelLineBytes : ℕ
-labelLineBytes = 16
-
-abbrev pub rowLineBytes : ℕ
-rowLineBytes = 71
-
--- the lines of n rows stand on the page from a place on, to the place `end`, with room for each
-pub record Listed (text before : List ℕ) (at n : ℕ) (after : List ℕ) (end : ℕ) : Type 0 where
-  pub written : Written text before at after end
-  pub room : end ≤ at + rowLineBytes * n

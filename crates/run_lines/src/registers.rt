@@ -13,7 +13,8 @@ ghost use Rattle.machine.specs.Registers.{machineRegisters, values};
 ghost use Rattle.characters.specs.Ascii.{tab, lineFeed};
 ghost use Rattle.page.specs.Text.{octal};
 ghost use Rattle.page.specs.Written.{Written};
-ghost use Rattle.run_lines.specs.Registers.{registerLines, workingRegisters, workingValues, registerLinesBytes, workingLinesBytes, pageBytes};
+ghost use Rattle.run_lines.specs.Registers.{registerLines, workingRegisters, workingValues};
+ghost use Rattle.run_lines.specs.Sizes.{registerLinesBytes, workingLinesBytes, pageBytes};
 
 // A register's line: its name, TAB, its value in n octal digits.
 fn put_register(page: &mut [u8; PAGE_BYTES], at: usize, name: &[u8], n: u64, value: u16) -> usize

@@ -13,8 +13,9 @@ ghost use lib.ListN.{length, take};
 ghost use Rattle.word.specs.Choice.{pick};
 ghost use Rattle.page.specs.Written.{Written};
 ghost use Rattle.pdp8_rows.specs.Text.{shippedText};
-ghost use Rattle.run_lines.specs.Rows.{rowOf, rowBelow, atLine, labelLine, rowLine, rowLines, rowLineBytes, Listed};
-ghost use Rattle.run_lines.specs.Registers.{pageBytes};
+ghost use Rattle.run_lines.specs.Rows.{rowOf, rowBelow, atLine, labelLine, rowLine, rowLines};
+ghost use Rattle.run_lines.specs.Sizes.{rowLineBytes, Listed};
+ghost use Rattle.run_lines.specs.Sizes.{pageBytes};
 
 // The number before k, and 0 before 0.
 fn before(k: usize) -> usize

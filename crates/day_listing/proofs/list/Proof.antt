@@ -2,7 +2,7 @@
 use borrow.Author.Needs.{needs}
 use mathlib.Core.Path.{ap, _∙_}
 use mathlib.Core.List.{[]}
-use Rattle.day_listing.specs.Listing.{scanListing}
+use Rattle.day_listing.specs.Scanned.{scanListing}
 use Rattle.day_listing.proofs.ByText.{scan-listing}
 use Rattle.day_listing.proofs.list.Statement.{statement}
 use Rattle.day_listing.proofs.list.Tie as tie
@@ -19,8 +19,8 @@ listing-requires c κs = search needs
 returns : tie.Need-returns
 returns c = let whole = c .before .before .before in
     let text = whole .before .before .before .before .before .args .text .now in
-    let held = whole .scanned .ensures .goes-on [] (whole .before .before .begin .ensures) in
-    rw (← (ap scanListing held ∙ scan-listing text (search needs))) (c .listing .ensures)
+    let read = whole .scanned .ensures .goes-on [] (whole .before .before .begin .ensures) in
+    rw (← (ap scanListing read ∙ scan-listing text (search needs))) (c .listing .ensures)
 
 pub list-spec : {M : Type 1} → statement M
 list-spec = tie.close (tie.spec begin-requires scanned-requires listing-requires returns)

@@ -2,7 +2,7 @@
 use borrow.Author.Needs.{needs}
 use mathlib.Core.Path.{refl, sym, _∙_}
 use native.Mathlib.Omega.{arith}
-use Rattle.image.specs.Scan.{held}
+use Rattle.image.specs.Scan.{kept}
 use Rattle.state.proofs.Accepted.{memory-acceptable}
 use Rattle.day_listing.proofs.ByText.{listed-refused, listed-checked}
 use Rattle.day_listing.proofs.listing.Statement.{statement}
@@ -17,7 +17,7 @@ put-refused-line-requires c κs = search needs
 returns : tie.Need-returns
 returns c = let found = c .before .before .before in
     let a = found .before .args in
-    rw (listed-refused (held (a .s) (a .memory .now)) _ (found .unfit-line .ensures) (c .before .before .if1 .taken)) (c .put-refused-line .ensures)
+    rw (listed-refused (kept (a .s) (a .memory .now)) _ (found .unfit-line .ensures) (c .before .before .if1 .taken)) (c .put-refused-line .ensures)
 
 check-memory-requires : tie.Need-check-memory-requires
 check-memory-requires c κs = search needs
@@ -37,7 +37,7 @@ returns-2 c = let check = c .before .before in
     let test = check .before .before in
     let a = test .before .before .args in
     let verdict = sym (check .check-memory .ensures) ∙ c .enum-told .given .1 in
-    rw (listed-checked (held (a .s) (a .memory .now)) _ (test .before .unfit-line .ensures) (test .if1 .left) _ verdict)
+    rw (listed-checked (kept (a .s) (a .memory .now)) _ (test .before .unfit-line .ensures) (test .if1 .left) _ verdict)
     (record { page = refl; whole = refl; within = omega arith })
 
 returns-3 : tie.Need-returns-3
@@ -46,7 +46,7 @@ returns-3 c = let told = c .before .before .before .before in
     let test = check .before .before in
     let a = test .before .before .args in
     let verdict = sym (check .check-memory .ensures) ∙ told .enum-told2 .given .1 in
-    rw (listed-checked (held (a .s) (a .memory .now)) _ (test .before .unfit-line .ensures) (test .if1 .left) _ verdict)
+    rw (listed-checked (kept (a .s) (a .memory .now)) _ (test .before .unfit-line .ensures) (test .if1 .left) _ verdict)
     (c .put-run .ensures)
 
 pub listing-spec : {M : Type 1} → statement M

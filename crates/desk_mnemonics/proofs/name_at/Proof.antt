@@ -1,7 +1,8 @@
 -- `desk_mnemonics::name_at`: the constant table is the definition's.
 use native.Mathlib.Omega.{arith}
 use Rattle.laws.proofs.Lists.{any-default}
-use Rattle.desk_mnemonics.specs.Mnemonics.{names, noName}
+use Rattle.desk_mnemonics.specs.Mnemonics.{names}
+use Rattle.desk_mnemonics.specs.Sizes.{noName}
 use Rattle.desk_mnemonics.proofs.Names.{names-count}
 use Rattle.desk_mnemonics.proofs.name_at.Statement.{statement}
 use Rattle.desk_mnemonics.proofs.name_at.Tie as tie

@@ -7,7 +7,8 @@ use lib.ListN.{length, getD}
 use Rattle.page.specs.Written.{Written}
 use Rattle.page.proofs.Writing.{written-none, written-then}
 use Rattle.word.specs.Choice.{pick}
-use Rattle.desk_mnemonics.specs.Mnemonics.{space, names, noName, isNamed, namesOf, unnamed, nameBytes}
+use Rattle.desk_mnemonics.specs.Mnemonics.{space, names, isNamed, namesOf, unnamed}
+use Rattle.desk_mnemonics.specs.Sizes.{noName, nameBytes}
 use Rattle.desk_mnemonics.proofs.Names.{names-count, name-size, begun, markOf, found, text-more, marks-more, found-all, none-named, some-named, named-size}
 use Rattle.desk_mnemonics.proofs.put_names.Statement.{statement}
 use Rattle.desk_mnemonics.proofs.put_names.Tie as tie

@@ -11,7 +11,7 @@ use Rattle.machine.specs.Registers.{widths, digitsOf}
 use Rattle.machine.proofs.Places.{width-le, width-at}
 use Rattle.characters.specs.declared.Class.the-variants.{Octal}
 use Rattle.entry.specs.Lines.{registerEntry}
-use Rattle.entry.proofs.Digits.{digits-size}
+use Rattle.image.proofs.Digits.{digits-size}
 use Rattle.entry.proofs.register_entry.Statement.{statement}
 use Rattle.entry.proofs.register_entry.Tie as tie
 

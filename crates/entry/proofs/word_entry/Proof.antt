@@ -7,8 +7,10 @@ use mathlib.Core.List.{List}
 use Prim.Native.Nat.{ℕ}
 use Rattle.characters.specs.declared.Class.the-variants.{Octal}
 use Rattle.laws.proofs.Joined.{and-left, and-right}
-use Rattle.entry.specs.Lines.{isDigits, wordEntry}
-use Rattle.entry.proofs.Digits.{digits-size, octal-lt}
+use Rattle.entry.specs.Lines.{wordEntry}
+use Rattle.image.specs.Input.{isOctalWord}
+use Rattle.image.proofs.Digits.{digits-size}
+use Rattle.image.proofs.WordLine.{octal-word-lt}
 use Rattle.entry.proofs.word_entry.Statement.{statement}
 use Rattle.entry.proofs.word_entry.Tie as tie
 
@@ -19,11 +21,11 @@ abbrev word : tie.Then1 → List ℕ
 word c = c .before .before .before .before .before .args .word .now
 
 -- each of the two fields is four octal digits
-address-octal : (c : tie.Then1) → isDigits Octal 4 (address c) ≡ true
+address-octal : (c : tie.Then1) → isOctalWord (address c) ≡ true
 address-octal c = let first = c .before .before .is-digits in
     sym (first .ensures) ∙ and-left (first .result) (c .before .is-digits2 .result) (c .if1 .taken)
 
-word-octal : (c : tie.Then1) → isDigits Octal 4 (word c) ≡ true
+word-octal : (c : tie.Then1) → isOctalWord (word c) ≡ true
 word-octal c = let second = c .before .is-digits2 in
     sym (second .ensures) ∙ and-right (c .before .before .is-digits .result) (second .result) (c .if1 .taken)
 
@@ -40,7 +42,7 @@ digits-value-requires-2 : tie.Need-digits-value-requires-2
 digits-value-requires-2 c κs = omega (arith, digits-size Octal 4 (word (c .before)) (word-octal (c .before)))
 
 cast-t12 : tie.Need-cast-t12
-cast-t12 c = omega (arith, c .digits-value2 .ensures, octal-lt 4 (word (c .before .before)) (word-octal (c .before .before)))
+cast-t12 c = omega (arith, c .digits-value2 .ensures, octal-word-lt (word (c .before .before)) (word-octal (c .before .before)))
 
 returns : tie.Need-returns
 unfolding wordEntry

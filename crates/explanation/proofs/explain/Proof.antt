@@ -2,7 +2,7 @@
 use borrow.Author.Needs.{needs}
 use mathlib.Core.Path.{ap, _∙_}
 use mathlib.Core.List.{[]}
-use Rattle.explanation.specs.Explanation.{scanExplanation}
+use Rattle.explanation.specs.Answered.{scanExplanation}
 use Rattle.explanation.proofs.ByText.{scan-explanation}
 use Rattle.explanation.proofs.explain.Statement.{statement}
 use Rattle.explanation.proofs.explain.Tie as tie
@@ -19,8 +19,8 @@ explanation-requires c κs = search needs
 returns : tie.Need-returns
 returns c = let whole = c .before .before .before in
     let text = whole .before .before .before .before .before .args .text .now in
-    let held = whole .scanned .ensures .goes-on [] (whole .before .before .begin .ensures) in
-    rw (← (ap scanExplanation held ∙ scan-explanation text (search needs))) (c .explanation .ensures)
+    let read = whole .scanned .ensures .goes-on [] (whole .before .before .begin .ensures) in
+    rw (← (ap scanExplanation read ∙ scan-explanation text (search needs))) (c .explanation .ensures)
 
 pub explain-spec : {M : Type 1} → statement M
 explain-spec = tie.close (tie.spec begin-requires scanned-requires explanation-requires returns)

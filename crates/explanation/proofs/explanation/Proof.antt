@@ -2,7 +2,7 @@
 use borrow.Author.Needs.{needs}
 use mathlib.Core.Path.{_≡_, ap}
 use Rattle.machine.specs.Registers.{machineOf}
-use Rattle.inquiry.specs.Scan.{held}
+use Rattle.inquiry.specs.Scan.{kept}
 use Rattle.explanation.proofs.ByText.{print-refused, print-answered}
 use Rattle.explanation.proofs.explanation.Statement.{statement}
 use Rattle.explanation.proofs.explanation.Tie as tie
@@ -16,7 +16,7 @@ put-refused-line-requires c κs = search needs
 returns : tie.Need-returns
 returns c = let found = c .before .before .before in
     let a = found .before .args in
-    rw (print-refused (held (a .s) (a .memory .now)) _ (found .unfit-line .ensures) (c .before .before .if1 .taken)) (c .put-refused-line .ensures)
+    rw (print-refused (kept (a .s) (a .memory .now)) _ (found .unfit-line .ensures) (c .before .before .if1 .taken)) (c .put-refused-line .ensures)
 
 machine-of-requires : tie.Need-machine-of-requires
 machine-of-requires c κs = search needs
@@ -32,7 +32,7 @@ returns-2 : tie.Need-returns-2
 returns-2 c = let registers = c .before .before in
     let test = registers .before .before in
     let a = test .before .before .args in
-    rw (print-answered (held (a .s) (a .memory .now)) _ (test .before .unfit-line .ensures) (test .if1 .left))
+    rw (print-answered (kept (a .s) (a .memory .now)) _ (test .before .unfit-line .ensures) (test .if1 .left))
     (rw (asked registers) at (c .answered .ensures))
 
 pub explanation-spec : {M : Type 1} → statement M

@@ -1,7 +1,7 @@
 -- `explanation::pc_in`: by the answer.
 use borrow.Author.Needs.{needs}
 use mathlib.Core.Path.{sym, ap}
-use Rattle.explanation.specs.Explanation.{pcIn}
+use Rattle.explanation.specs.Answered.{pcIn}
 use Rattle.explanation.proofs.pc_in.Statement.{statement}
 use Rattle.explanation.proofs.pc_in.Tie as tie
 

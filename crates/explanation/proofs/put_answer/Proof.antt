@@ -10,7 +10,7 @@ use Rattle.page.proofs.Numbers.{decimal-length}
 use Rattle.page.proofs.Writing.{written-then, written-page}
 use Rattle.last_lines.specs.LastLines.{endLine}
 use Rattle.desk_last_step.specs.LastStep.{lastStep}
-use Rattle.run_lines.specs.Registers.{pageBytes}
+use Rattle.run_lines.specs.Sizes.{pageBytes}
 use Rattle.run_lines.proofs.RegisterLines.{registers-size, working-size}
 use Rattle.explanation.proofs.Sizes.{end-within, step-within}
 use Rattle.explanation.proofs.put_answer.Statement.{statement}

@@ -4,13 +4,13 @@ use mathlib.Core.Path.{_≡_, sym, _∙_}
 use Prim.Native.Nat.{_-_, _≤_}
 use lib.ListN.{length, drop}
 use Rattle.image.specs.Pass.{pass}
-use Rattle.image.specs.Scan.{held, scanByte, begun}
+use Rattle.image.specs.Scan.{words, kept, scanByte, begun}
 use Rattle.image.proofs.Pass.{pass-end, pass-on, passed}
 use Rattle.image.proofs.scanned.Statement.{statement}
 use Rattle.image.proofs.scanned.Tie as tie
 
 abbrev Inv-loop : tie.InvT-loop
-Inv-loop memory₀ chunk at₀ i₀ memory at i = (i ≤ length chunk) × (pass scanByte (held at₀ memory₀) chunk ≡ pass scanByte (held at memory) (drop i chunk))
+Inv-loop memory₀ chunk at₀ i₀ memory at i = (i ≤ length chunk) × (pass (scanByte words) (kept at₀ memory₀) chunk ≡ pass (scanByte words) (kept at memory) (drop i chunk))
 
 abbrev μ-loop : tie.MeasureT-loop
 μ-loop memory₀ chunk at₀ i₀ memory at i = length chunk - i
@@ -33,11 +33,11 @@ loop-less c = search needs
 loop-again : tie.Need-loop-again Inv-loop μ-loop
 loop-again c = let here = c .before .before .before in
     let at = here .before .loop in
-    (search needs, at .inv .1 ∙ pass-on scanByte _ _ _ (at .i) (here .loop-test .taken) (c .scan-byte .ensures))
+    (search needs, at .inv .1 ∙ pass-on (scanByte words) _ _ _ (at .i) (here .loop-test .taken) (c .scan-byte .ensures))
 
 returns : tie.Need-returns Inv-loop μ-loop
 returns c = let at = c .before .loop in
-    passed scanByte begun _ _ _ (sym (at .inv .1 ∙ pass-end scanByte _ _ (at .i) (c .loop-test .left)))
+    passed (scanByte words) (begun words) _ _ _ (sym (at .inv .1 ∙ pass-end (scanByte words) _ _ (at .i) (c .loop-test .left)))
 
 pub scanned-spec : {M : Type 1} → statement M
 scanned-spec =

@@ -1,7 +1,8 @@
 -- `inquiry::after_read`: the bytes read are the chunk.
 use borrow.Author.Needs.{needs}
 use mir.Facts.{toZ-ofZ}
-use Rattle.inquiry.specs.Scan.{scanByte, begun}
+use Rattle.image.specs.Scan.{scanByte, begun}
+use Rattle.inquiry.specs.Scan.{asking}
 use Rattle.image.proofs.Read.{after-read}
 use Rattle.inquiry.proofs.after_read.Statement.{statement}
 use Rattle.inquiry.proofs.after_read.Tie as tie
@@ -18,7 +19,7 @@ scanned-requires c κs = search needs
 returns : tie.Need-returns
 returns c = let start = c .before .before .before .before .before in
     let count = c .before .before .before .count in
-    after-read scanByte begun _ _ (start .args .got) _ (start .args .buffer .now) (count .result) (toZ-ofZ (start .fits .got)) (count .ensures .1)
+    after-read (scanByte asking) (begun asking) _ _ (start .args .got) _ (start .args .buffer .now) (count .result) (toZ-ofZ (start .fits .got)) (count .ensures .1)
     (c .scanned .ensures)
 
 pub after-read-spec : {M : Type 1} → statement M

@@ -2,7 +2,7 @@
 use borrow.Author.Needs.{needs}
 use mathlib.Core.Path.{ap}
 use mathlib.Core.List.{[]}
-use Rattle.inquiry.specs.Scan.{held}
+use Rattle.inquiry.specs.Scan.{kept}
 use Rattle.inquiry.proofs.next_line.Statement.{statement}
 use Rattle.inquiry.proofs.next_line.Tie as tie
 
@@ -11,7 +11,7 @@ wrapping-add-u64-requires c κs = search needs
 
 returns : tie.Need-returns
 returns c = let s = c .before .args .s in
-    λ memory. ap (λ n. record { line = n; part = []; refused = s .refused; inquiry = held s memory .inquiry }) (c .wrapping-add-u64 .ensures)
+    λ memory. ap (λ n. record { line = n; part = []; refused = s .refused; made = kept s memory .made }) (c .wrapping-add-u64 .ensures)
 
 pub next-line-spec : {M : Type 1} → statement M
 next-line-spec = tie.close (tie.spec wrapping-add-u64-requires returns)

@@ -4,13 +4,14 @@ use mathlib.Core.Path.{_≡_, sym, _∙_}
 use Prim.Native.Nat.{_-_, _≤_}
 use lib.ListN.{length, drop}
 use Rattle.image.specs.Pass.{pass}
-use Rattle.inquiry.specs.Scan.{held, scanByte, begun}
+use Rattle.image.specs.Scan.{scanByte, begun}
+use Rattle.inquiry.specs.Scan.{asking, kept}
 use Rattle.image.proofs.Pass.{pass-end, pass-on, passed}
 use Rattle.inquiry.proofs.scanned.Statement.{statement}
 use Rattle.inquiry.proofs.scanned.Tie as tie
 
 abbrev Inv-loop : tie.InvT-loop
-Inv-loop memory₀ chunk at₀ i₀ memory at i = (i ≤ length chunk) × (pass scanByte (held at₀ memory₀) chunk ≡ pass scanByte (held at memory) (drop i chunk))
+Inv-loop memory₀ chunk at₀ i₀ memory at i = (i ≤ length chunk) × (pass (scanByte asking) (kept at₀ memory₀) chunk ≡ pass (scanByte asking) (kept at memory) (drop i chunk))
 
 abbrev μ-loop : tie.MeasureT-loop
 μ-loop memory₀ chunk at₀ i₀ memory at i = length chunk - i
@@ -33,11 +34,11 @@ loop-less c = search needs
 loop-again : tie.Need-loop-again Inv-loop μ-loop
 loop-again c = let here = c .before .before .before in
     let at = here .before .loop in
-    (search needs, at .inv .1 ∙ pass-on scanByte _ _ _ (at .i) (here .loop-test .taken) (c .scan-byte .ensures))
+    (search needs, at .inv .1 ∙ pass-on (scanByte asking) _ _ _ (at .i) (here .loop-test .taken) (c .scan-byte .ensures))
 
 returns : tie.Need-returns Inv-loop μ-loop
 returns c = let at = c .before .loop in
-    passed scanByte begun _ _ _ (sym (at .inv .1 ∙ pass-end scanByte _ _ (at .i) (c .loop-test .left)))
+    passed (scanByte asking) (begun asking) _ _ _ (sym (at .inv .1 ∙ pass-end (scanByte asking) _ _ (at .i) (c .loop-test .left)))
 
 pub scanned-spec : {M : Type 1} → statement M
 scanned-spec =

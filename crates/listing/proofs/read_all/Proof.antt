@@ -1,15 +1,15 @@
--- `listing::read_all`: after each read the scanner and the memory are those of some text. The turns that are left fall.
+-- `listing::read_all`: after each read the scanner and the memory are those of some text. The reads that are left fall.
 use borrow.Author.Needs.{needs}
 use mathlib.Core.List.{[]}
-use Rattle.image.specs.Scan.{held, Reached}
+use Rattle.image.specs.Scan.{words, kept, Reached}
 use Rattle.listing.proofs.read_all.Statement.{statement}
 use Rattle.listing.proofs.read_all.Tie as tie
 
 abbrev Inv-loop : tie.InvT-loop
-Inv-loop memory₀ turn₀ turns₀ memory turn turns = Reached (held (turn .scanner) memory)
+Inv-loop memory₀ last₀ left₀ memory last left = Reached words (kept (last .scanner) memory)
 
 abbrev μ-loop : tie.MeasureT-loop
-μ-loop memory₀ turn₀ turns₀ memory turn turns = turns
+μ-loop memory₀ last₀ left₀ memory last left = left
 
 begin-requires : tie.Need-begin-requires Inv-loop μ-loop
 begin-requires c κs = search needs
@@ -23,8 +23,8 @@ loop-holds c = c .read-some .ensures
 read-some-requires-2 : tie.Need-read-some-requires-2 Inv-loop μ-loop
 read-some-requires-2 c κs = c .before .before .before .before .before .loop .inv
 
-sub-turns : tie.Need-sub-turns Inv-loop μ-loop
-sub-turns c = search needs
+sub-left : tie.Need-sub-left Inv-loop μ-loop
+sub-left c = search needs
 
 loop-less : tie.Need-loop-less Inv-loop μ-loop
 loop-less c = search needs
@@ -48,7 +48,7 @@ read-all-spec =
     read-some-requires
     loop-holds
     read-some-requires-2
-    sub-turns
+    sub-left
     loop-less
     loop-again
     returns

@@ -6,7 +6,7 @@ use Prim.Native.Nat.{_+_, _≤_}
 use lib.ListN.{length}
 use Rattle.characters.specs.Ascii.{ascii}
 use Rattle.page.proofs.Writing.{written-none, written-then}
-use Rattle.run_lines.specs.Registers.{pageBytes}
+use Rattle.run_lines.specs.Sizes.{pageBytes}
 use Rattle.run_lines.proofs.RegisterLines.{register-end, working-registers, working-values}
 use Rattle.run_lines.proofs.registers.put_working.Statement.{statement}
 use Rattle.run_lines.proofs.registers.put_working.Tie as tie

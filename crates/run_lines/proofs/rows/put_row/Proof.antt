@@ -8,7 +8,8 @@ use lib.ListN.{length}
 use Rattle.page.specs.Text.{decimal}
 use Rattle.page.proofs.Numbers.{decimal-length}
 use Rattle.page.proofs.Writing.{written-then}
-use Rattle.run_lines.specs.Rows.{rowOf, labelLine, rowLine, labelLineBytes}
+use Rattle.run_lines.specs.Rows.{rowOf, labelLine, rowLine}
+use Rattle.run_lines.specs.Sizes.{labelLineBytes}
 use Rattle.run_lines.proofs.RowTexts.{rowTextBytes, row-size, label-size}
 use Rattle.run_lines.proofs.rows.put_row.Statement.{statement}
 use Rattle.run_lines.proofs.rows.put_row.Tie as tie

@@ -6,7 +6,8 @@ use Prim.Native.Nat.{_+_, _-_, _*_, _≤_}
 use lib.ListN.{take, getD}
 use Rattle.page.specs.Written.{Written}
 use Rattle.page.proofs.Writing.{written-none, written-then}
-use Rattle.run_lines.specs.Rows.{rowLines, rowLineBytes}
+use Rattle.run_lines.specs.Rows.{rowLines}
+use Rattle.run_lines.specs.Sizes.{rowLineBytes}
 use Rattle.run_lines.proofs.RowTexts.{row-line-size, rows-more}
 use Rattle.run_lines.proofs.rows.put_rows.Statement.{statement}
 use Rattle.run_lines.proofs.rows.put_rows.Tie as tie

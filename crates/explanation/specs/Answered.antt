@@ -9,7 +9,7 @@ use Rattle.state.specs.Checks.{checkState}
 use Rattle.state.specs.declared.Verdict.{Verdict}
 use Rattle.state.specs.declared.Verdict.the-variants.{Fit, Unfit}
 use Rattle.machine.specs.declared.Machine.{Machine}
-use Rattle.machine.specs.State.{widths, values}
+use Rattle.machine.specs.Registers.{widths, values, machineOf}
 use Rattle.emulator.specs.declared.Answer as emulator
 use Rattle.emulator.specs.declared.Answer.the-variants as emulated
 use Rattle.last_lines.specs.LastLines.{orRefused}
@@ -19,7 +19,7 @@ use Rattle.image.specs.Scan.{Scan, unfitLine}
 use Rattle.inquiry.specs.Input.{Inquiry}
 use Rattle.desk_last_step.specs.LastStep.{changeLines}
 use Rattle.desk_last_step.specs.Sizes.{changeLinesBytes}
-use Rattle.explanation.specs.Explanation.{machineOf, explained}
+use Rattle.explanation.specs.Explanation.{explained}
 
 -- the output by a state check's verdict. No text leaves another state than a fit one; another has no run, and nothing is printed.
 abbrev pub checkedBy : Verdict → Machine → List ℕ → ℕ → List ℕ

@@ -8,7 +8,7 @@ use native.Mathlib.Omega.{arith}
 use Prim.Native.Nat.{_-_}
 use Rattle.word.specs.Choice.{on, pick}
 use Rattle.state.specs.declared.Reason.the-variants.{Halted, Spent}
-use Rattle.machine.specs.State.{at as state}
+use Rattle.machine.specs.Processor.{at as state}
 use Rattle.day_listing.specs.Listing.{budget}
 use Rattle.day_listing.specs.Stepped.{pageBytes}
 use Rattle.page.proofs.Writing.{written-then, written-page}

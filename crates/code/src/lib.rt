@@ -1,6 +1,7 @@
 // The table of words that stand for an expression, and how far reading has come.
 pub mod compounds;
 pub mod leaves;
+
 ghost use mathlib.Core.Path.{_≡_};
 ghost use mathlib.Core.List.{[], _∷_};
 ghost use Prim.Native.Nat.{_+_, _*_, _≤_, _<_};

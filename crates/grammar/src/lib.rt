@@ -104,7 +104,14 @@ fn read_operation(
         pieces: left.pieces,
     };
     match read_level(text, d, s, code, depth, strength + 1, start) {
-        Part::Found(right, other) => code::compounds::joined_part(code, row, left, width, right, other),
+        Part::Found(right, other) => code::compounds::joined_part(
+            code,
+            row,
+            left,
+            width,
+            right,
+            other,
+        ),
         Part::Fault => Part::Fault,
     }
 }

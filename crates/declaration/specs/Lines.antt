@@ -54,6 +54,11 @@ pub data Step : Type 0 where
   refused : Fault → Step
   next : Progress → Step
 
+-- what a line comes to if a rule is kept; if not, it is refused
+abbrev pub kept : Bool → Fault → Step → Step
+kept true f x = x
+kept false f x = refused f
+
 -- "width (1 to 16, no leading zero)", which is the whole field
 abbrev pub isWidth : List ℕ → Number → Bool
 isWidth s (Plain w end) = leb 1 w && leb w widest && eqb end (length s)
@@ -70,14 +75,8 @@ isNewName rs s = isName s && not (isReserved s) && not (among s rs)
 -- ".. or a bad width"; "the 17th register"
 unfoldable pub addRegister : Progress → List ℕ → List ℕ → Step
 addRegister p s w =
-    elim (isNewName (p .registers) s && isWidth w (decimalAt w 0)) [
-      | true ↦
-          elim (ltb (length (p .registers)) mostRegisters) [
-            | true ↦ next (withRegister p (record { name = s; number = widthOf (decimalAt w 0) }))
-            | false ↦ refused Limit
-          ]
-      | false ↦ refused Register
-    ]
+    kept (isNewName (p .registers) s && isWidth w (decimalAt w 0)) Register
+    (kept (ltb (length (p .registers)) mostRegisters) Limit (next (withRegister p (record { name = s; number = widthOf (decimalAt w 0) }))))
 
 -- whether all lines so far are `reg` lines: each of the others brings a label or a row
 abbrev pub unbegun : Progress → Bool
@@ -85,7 +84,7 @@ unbegun p = eqb (length (p .labels) + length (p .rows)) 0
 
 -- "`reg`, name, width"; "`reg` after another kind"
 unfoldable pub regLine : Progress → List ℕ → Step
-regLine p s = elim (hasFields 3 s && unbegun p) [ true ↦ addRegister p (field 1 s) (field 2 s) | false ↦ refused Line ]
+regLine p s = kept (hasFields 3 s && unbegun p) Line (addRegister p (field 1 s) (field 2 s))
 
 -- "an `at` label malformed, repeated or equal to a register name"
 abbrev pub isNewLabel : List Named → List Named → List ℕ → Bool
@@ -94,15 +93,9 @@ isNewLabel ls rs s = isName s && not (among s ls) && not (among s rs)
 -- "33rd label". A label has no number of its own: 0.
 unfoldable pub addLabel : Progress → List ℕ → Step
 addLabel p s =
-    elim (isNewLabel (p .labels) (p .registers) s) [
-      | true ↦
-          elim (ltb (length (p .labels)) mostLabels) [
-            | true ↦ next (withLabel p (record { name = s; number = 0 }))
-            | false ↦ refused Limit
-          ]
-      | false ↦ refused Label
-    ]
+    kept (isNewLabel (p .labels) (p .registers) s) Label
+    (kept (ltb (length (p .labels)) mostLabels) Limit (next (withLabel p (record { name = s; number = 0 }))))
 
 -- "`at`, label"
 unfoldable pub atLine : Progress → List ℕ → Step
-atLine p s = elim (hasFields 2 s) [ true ↦ addLabel p (field 1 s) | false ↦ refused Line ]
+atLine p s = kept (hasFields 2 s) Line (addLabel p (field 1 s))

@@ -1,9 +1,10 @@
 // The lines that declare something: `reg` and `at`.
 use crate::faults::Fault;
-use crate::limits;
 use code::WIDEST;
 use constants::Number;
 use names::Dictionary;
+use text_limits::MOST_LABELS;
+use text_limits::MOST_REGISTERS;
 ghost use mathlib.Core.Path.{_≡_};
 ghost use mathlib.Core.Bool.{true};
 ghost use Prim.Native.Nat.{_+_, _≤_};
@@ -101,7 +102,7 @@ fn add_register(text: &[u8], q: Progress, start: usize, name: &[u8], width: &[u8
     let registers = q.registers;
     let n = constants::decimal_at(width, 0);
     if is_new_name(text, registers, name) & is_width(width, n) {
-        if registers.count < limits::REGISTERS {
+        if registers.count < MOST_REGISTERS {
             let mut next = q;
             next.registers = names::with_name(
                 registers,
@@ -130,7 +131,7 @@ fn add_label(text: &[u8], q: Progress, start: usize, label: &[u8]) -> Step
 {
     let labels = q.labels;
     if is_new_label(text, labels, q.registers, label) {
-        if labels.count < limits::LABELS {
+        if labels.count < MOST_LABELS {
             let mut next = q;
             next.labels = names::with_name(labels, start as u16, label.len() as u16, 0);
             return taken(next);

@@ -9,9 +9,12 @@ use lib.Dec.{eqb, leb, ltb}
 use lib.ListN.{length, length-append}
 use borrow.Author.Tests.{eqb-true, ltb-true, leb-true}
 use Rattle.word.specs.Word.{widest}
+use Rattle.word.specs.Choice.{pick}
 use Rattle.characters.specs.Characters.{same}
 use Rattle.characters.specs.Ascii.{lineFeed}
-use Rattle.fields.specs.Fields.{Line, until, before, after, lines, field, hasFields}
+use Rattle.fields.specs.Fields.{Line, before, after, lines, field, hasFields}
+use Rattle.fields.specs.Rests.{firstLine}
+use Rattle.fields.proofs.Lines.{first-line}
 use Rattle.characters.specs.Named.{Named}
 use Rattle.names.specs.Names.{isName}
 use Rattle.constants.specs.Constants.{decimalAt}
@@ -25,16 +28,18 @@ use Rattle.code.specs.Readings.{Reading, read, outside, DestinationReading, lea
 use Rattle.expression.specs.Expression.{expression, destination}
 use Rattle.code.specs.Formed.{Registers, Accepted, Reads, FormedDestination, LeadsTo}
 use Rattle.expression.proofs.Formed.{expression-formed, destination-formed}
-use Rattle.declaration.specs.declared.faults.Fault.the-variants.{Label, Run}
+use Rattle.declaration.specs.declared.faults.Fault.{Fault}
+use Rattle.declaration.specs.declared.faults.Fault.the-variants as fault
+use Rattle.declaration.specs.declared.faults.Fault.the-variants.{Size, Header, Register, Label, Limit, Run}
 use Rattle.targets.specs.declared.Target.{Target}
 use Rattle.targets.specs.declared.Target.the-variants.{Passes, Missing}
 use Rattle.declaration.specs.Rows.{Row, does, goes, rowPieces, piecesOf, Description}
 use Rattle.text_limits.specs.Limits.{mostBytes, mostRegisters, mostRows, mostLabels, allPieces}
-use Rattle.declaration.specs.Lines.{regWord, doWord, goWord, atWord, Progress, Step, refused, next, widthOf, isWidth, isNewName, addRegister, unbegun, regLine, isNewLabel, addLabel, atLine}
+use Rattle.declaration.specs.Lines.{regWord, doWord, goWord, atWord, Progress, Step, refused, next, kept, widthOf, isWidth, isNewName, addRegister, unbegun, regLine, isNewLabel, addLabel, atLine}
 use Rattle.targets.specs.Targets.{isAt, isRow, further, passes, MissingTarget, missingAt, noneMissing, firstMissing}
 use Rattle.row.specs.Lines.{addRow, addDo, doLine, rowsPassed, addGo, goLine}
-use Rattle.line.specs.Line.{isFit, readLine}
-use Rattle.description.specs.Description.{Answer, accepted, turnedDown, header, nothing, hasRun, finished, readLines, readBelow, readText}
+use Rattle.description.specs.Line.{isFit, byWord, readLine}
+use Rattle.description.specs.Description.{Acceptance, accepted, turnedDown, keptAt, header, nothing, hasRun, finished, readLines, readBelow, readAll, readText}
 use Rattle.description.specs.Formed.{FormedRow, FormedRows, Lands, Lower, Formed, labelsIn, Keeps}
 
 -- what is one word is no other
@@ -127,6 +132,15 @@ abbrev After : ℕ → List Line → Step → Type 0
 After all ls (refused f) = Unit {0}
 After all ls (next q) = Kept all q ls
 
+-- by a rule that is kept, or by a choice
+if-kept : (all : ℕ) (ls : List Line) (b : Bool) (f : Fault) (x : Step) → (b ≡ true → After all ls x) → After all ls (kept b f x)
+if-kept all ls true f x p = p refl
+if-kept all ls false f x p = tt
+
+either : (all : ℕ) (ls : List Line) (b : Bool) (x y : Step) → (b ≡ true → After all ls x) → (b ≡ false → After all ls y) → After all ls (pick b x y)
+either all ls true x y p q = p refl
+either all ls false x y p q = q refl
+
 module _ (all : ℕ) (p : Progress) (l : Line) (ls : List Line) (h : Kept all p (l ∷ ls)) where
   abbrev s : List ℕ
   s = l .bytes
@@ -135,9 +149,9 @@ module _ (all : ℕ) (p : Progress) (l : Line) (ls : List Line) (h : Kept all p 
   register-kept : p .rows ≡ [] → isRow s ≡ false → same (field 0 s) atWord ≡ false → (n w : List ℕ) → After all ls (addRegister p n w)
   unfolding addRegister
   register-kept b r a n w =
-      by-case (After all ls) (isNewName (p .registers) n && isWidth w (decimalAt w 0))
+      if-kept all ls (isNewName (p .registers) n && isWidth w (decimalAt w 0)) Register _
       (λ t.
-      by-case (After all ls) (ltb (length (p .registers)) mostRegisters)
+      if-kept all ls (ltb (length (p .registers)) mostRegisters) Limit _
       (λ u.
       let width = widthOf (decimalAt w 0) in
       let added : Named = record { name = n; number = width } in
@@ -152,24 +166,21 @@ module _ (all : ℕ) (p : Progress) (l : Line) (ls : List Line) (h : Kept all p 
         rows-formed = subst (λ (rows : List Row). FormedRows (p .registers ++ (added ∷ [])) rows) (sym b) tt;
         lower = subst (λ (k : ℕ). Lower k (p .rows)) (row-uncounted l ls r) (h .lower);
         labels-left = subst (λ (k : ℕ). length (p .labels) + k ≡ all) (label-uncounted l ls a) (h .labels-left);
-      })
-      (λ u. tt))
-      (λ t. tt)
+      }))
 
   reg-kept : isRow s ≡ false → same (field 0 s) atWord ≡ false → After all ls (regLine p s)
   unfolding regLine
   reg-kept r a =
-      by-case (After all ls) (hasFields 3 s && unbegun p)
+      if-kept all ls (hasFields 3 s && unbegun p) fault.Line _
       (λ t. register-kept (no-row-yet (p .rows) (length (p .labels)) (and-right (hasFields 3 s) (unbegun p) t)) r a (field 1 s) (field 2 s))
-      (λ t. tt)
 
   -- a label more
   label-kept : isRow s ≡ false → same (field 0 s) atWord ≡ true → (n : List ℕ) → After all ls (addLabel p n)
   unfolding addLabel
   label-kept r a n =
-      by-case (After all ls) (isNewLabel (p .labels) (p .registers) n)
+      if-kept all ls (isNewLabel (p .labels) (p .registers) n) Label _
       (λ t.
-      by-case (After all ls) (ltb (length (p .labels)) mostLabels)
+      if-kept all ls (ltb (length (p .labels)) mostLabels) Limit _
       (λ u.
       record {
         few-registers = h .few-registers;
@@ -180,13 +191,11 @@ module _ (all : ℕ) (p : Progress) (l : Line) (ls : List Line) (h : Kept all p 
         rows-formed = h .rows-formed;
         lower = subst (λ (k : ℕ). Lower k (p .rows)) (row-uncounted l ls r) (h .lower);
         labels-left = omega (arith, length-append (p .labels) (record { name = n; number = 0 } ∷ []), label-counted l ls a, h .labels-left);
-      })
-      (λ u. tt))
-      (λ t. tt)
+      }))
 
   at-kept : isRow s ≡ false → same (field 0 s) atWord ≡ true → After all ls (atLine p s)
   unfolding atLine
-  at-kept r a = by-case (After all ls) (hasFields 2 s) (λ t. label-kept r a (field 1 s)) (λ t. tt)
+  at-kept r a = if-kept all ls (hasFields 2 s) fault.Line _ (λ t. label-kept r a (field 1 s))
 
   abbrev rs : List Named
   rs = p .registers
@@ -197,7 +206,7 @@ module _ (all : ℕ) (p : Progress) (l : Line) (ls : List Line) (h : Kept all p 
     row-kept : (row : Row) → FormedRow (p .registers) row → Lands row (rowsIn ls) → After all ls (addRow p row)
     unfolding addRow
     row-kept row f lands =
-        by-case (After all ls) (ltb (length (p .rows)) mostRows && leb (piecesOf (p .rows) + rowPieces row) allPieces)
+        if-kept all ls (ltb (length (p .rows)) mostRows && leb (piecesOf (p .rows) + rowPieces row) allPieces) Limit _
         (λ t.
         let j = and-left (ltb (length (p .rows)) mostRows) (leb (piecesOf (p .rows) + rowPieces row) allPieces) t in
         let k = and-right (ltb (length (p .rows)) mostRows) (leb (piecesOf (p .rows) + rowPieces row) allPieces) t in
@@ -211,7 +220,6 @@ module _ (all : ℕ) (p : Progress) (l : Line) (ls : List Line) (h : Kept all p 
           lower = lower-snoc (p .rows) row (rowsIn ls) (subst (λ (n : ℕ). Lower n (p .rows)) (row-counted l ls r) (h .lower)) lands;
           labels-left = subst (λ (n : ℕ). length (p .labels) + n ≡ all) (label-uncounted l ls a) (h .labels-left);
         })
-        (λ t. tt)
 
     -- a `do` row
     do-row-kept : (c : Reading) (d : DestinationReading) (e : Reading) → Reads (Accepted rs) c → LeadsTo (FormedDestination rs) d → Reads (Accepted rs) e
@@ -225,27 +233,22 @@ module _ (all : ℕ) (p : Progress) (l : Line) (ls : List Line) (h : Kept all p 
     do-kept : After all ls (doLine p s)
     unfolding doLine
     do-kept =
-        by-case (After all ls) (hasFields 4 s)
+        if-kept all ls (hasFields 4 s) fault.Line _
         (λ t.
         do-row-kept (expression rs (field 1 s)) (destination rs (field 2 s)) (expression rs (field 3 s))
         (expression-formed rs (field 1 s)) (destination-formed rs (field 2 s)) (expression-formed rs (field 3 s)))
-        (λ t. tt)
 
     -- a `go` row
     go-row-kept : (label : List ℕ) (c : Reading) → Reads (Accepted rs) c → After all ls (addGo p label (passes label ls) c)
     unfolding addGo
     go-row-kept label (read c x) f =
-        by-case (After all ls) (isName label)
-        (λ t. row-kept (goes c (rowsPassed (passes label ls))) f (passes-le label ls))
-        (λ t. tt)
+        if-kept all ls (isName label) Label _ (λ t. row-kept (goes c (rowsPassed (passes label ls))) f (passes-le label ls))
     go-row-kept label outside f = tt
 
     go-kept : After all ls (goLine p ls s)
     unfolding goLine
     go-kept =
-        by-case (After all ls) (hasFields 3 s)
-        (λ t. go-row-kept (field 2 s) (expression rs (field 1 s)) (expression-formed rs (field 1 s)))
-        (λ t. tt)
+        if-kept all ls (hasFields 3 s) fault.Line _ (λ t. go-row-kept (field 2 s) (expression rs (field 1 s)) (expression-formed rs (field 1 s)))
 
   -- a line
   abbrev word : List ℕ
@@ -255,25 +258,28 @@ module _ (all : ℕ) (p : Progress) (l : Line) (ls : List Line) (h : Kept all p 
   neither e f = rw (e, f)
 
   line-kept : After all ls (readLine p ls l)
-  unfolding readLine same
+  unfolding readLine byWord same
   line-kept =
-      by-case (After all ls) (isFit l)
+      if-kept all ls (isFit l) fault.Line _
       (λ t.
-      by-case (After all ls) (same word regWord)
+      either all ls (same word regWord) _ _
       (λ e. reg-kept (neither (other word regWord e doWord refl) (other word regWord e goWord refl)) (other word regWord e atWord refl))
       (λ u.
-      by-case (After all ls) (same word doWord)
+      either all ls (same word doWord) _ _
       (λ e. do-kept (rw e) (other word doWord e atWord refl))
       (λ v.
-      by-case (After all ls) (same word goWord)
+      either all ls (same word goWord) _ _
       (λ e. go-kept (rw (other word goWord e doWord refl, e)) (other word goWord e atWord refl))
-      (λ w. by-case (After all ls) (same word atWord) (λ e. at-kept (neither v w) e) (λ x. tt)))))
-      (λ t. tt)
+      (λ w. if-kept all ls (same word atWord) fault.Line _ (λ e. at-kept (neither v w) e)))))
 
 -- the whole text
-abbrev Ends : ℕ → Answer → Type 0
+abbrev Ends : ℕ → Acceptance → Type 0
 Ends all (accepted d) = Formed d × (all ≤ mostLabels)
 Ends all (turnedDown f n) = Unit {0}
+
+if-taken : (all n : ℕ) (b : Bool) (f : Fault) (x : Acceptance) → (b ≡ true → Ends all x) → Ends all (keptAt n b f x)
+if-taken all n true f x p = p refl
+if-taken all n false f x p = tt
 
 finished-kept : (all : ℕ) (below : List Line) (p : Progress) (n : ℕ) → Kept all p [] → Ends all (finished below p n)
 unfolding finished rowsIn labelsIn
@@ -282,11 +288,11 @@ finished-kept all below p n h = by-target (firstMissing 2 below)
     by-target : (x : MissingTarget)
         → Ends all (elim x [
           | missingAt k ↦ turnedDown Label k
-          | noneMissing ↦ elim (hasRun (p .registers)) [ true ↦ accepted (record { registers = p .registers; rows = p .rows }) | false ↦ turnedDown Run n ]
+          | noneMissing ↦ keptAt n (hasRun (p .registers)) Run (accepted (record { registers = p .registers; rows = p .rows }))
         ])
     by-target (missingAt k) = tt
     by-target noneMissing =
-        by-case (Ends all) (hasRun (p .registers))
+        if-taken all n (hasRun (p .registers)) Run _
         (λ u. (
           record {
             few-registers = h .few-registers;
@@ -299,7 +305,6 @@ finished-kept all below p n h = by-target (firstMissing 2 below)
           },
           omega (arith, h .labels-left, h .few-labels),
         ))
-        (λ u. tt)
 
 lines-kept : (all : ℕ) (below ls : List Line) (p : Progress) (n : ℕ) → Kept all p ls → Ends all (readLines below p n ls)
 unfolding readLines
@@ -325,19 +330,18 @@ start-kept ls =
       labels-left = omega arith;
     }
 
+all-kept : (s : List ℕ) → Ends (labelsIn (lines (after lineFeed s))) (readAll (lines s))
+unfolding readAll readBelow lines
+all-kept [] = tt
+all-kept (y ∷ s) =
+    let ls = lines (after lineFeed (y ∷ s)) in
+    subst (λ (k : List Line). Ends (labelsIn ls) (readAll k)) (sym (first-line (y ∷ s) (omega arith)))
+    (if-taken (labelsIn ls) 1 (same (before lineFeed (y ∷ s)) header) Header _
+    (λ u. if-taken (labelsIn ls) 1 (firstLine (y ∷ s) .ended) fault.Line _ (λ v. lines-kept (labelsIn ls) ls ls nothing 2 (start-kept ls))))
+
 text-kept : (s : List ℕ) → Ends (labelsIn (lines (after lineFeed s))) (readText s)
-unfolding readText readBelow
-text-kept s =
-    let ls = lines (after lineFeed s) in
-    by-case (Ends (labelsIn ls)) (leb (length s) mostBytes)
-    (λ t.
-    by-case (Ends (labelsIn ls)) (same (before lineFeed s) header)
-    (λ u.
-    by-case (Ends (labelsIn ls)) (ltb (until lineFeed s) (length s))
-    (λ v. lines-kept (labelsIn ls) ls ls nothing 2 (start-kept ls))
-    (λ v. tt))
-    (λ u. tt))
-    (λ t. tt)
+unfolding readText
+text-kept s = if-taken (labelsIn (lines (after lineFeed s))) 0 (leb (length s) mostBytes) Size _ (λ t. all-kept s)
 
 -- a description that is accepted keeps every limit
 pub accepted-keeps : (s : List ℕ) (d : Description) → readText s ≡ accepted d → Keeps d (lines (after lineFeed s))

@@ -1,2 +1,3 @@
-mod Texts
+mod FirstWords
+pub mod Texts
 pub mod Formed

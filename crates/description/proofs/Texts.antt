@@ -7,13 +7,14 @@ use Prim.Native.Nat.{ℕ, _+_, _-_, _*_, _≤_, _<_}
 use native.Mathlib.Omega.{arith}
 use lib.Dec.{eqb, leb, ltb}
 use lib.ListN.{length, getD, drop, length-drop, drop-of-length-le, replicate}
-use lib.Seq.{drop-drop}
+use lib.Seq.{sets, drop-drop}
 use borrow.Author.Tests.{ne-eqb, ltb-true, leb-true, leb-false}
-use Rattle.characters.specs.Characters.{same}
+use Rattle.characters.specs.Characters.{run, same}
 use Rattle.fields.specs.Fields as fields
 use Rattle.characters.specs.Ascii.{lineFeed}
-use Rattle.fields.specs.Fields.{until, before, after, lines, firstLine}
-use Rattle.characters.specs.Named.{find}
+use Rattle.fields.specs.Fields.{until, before, after, lines}
+use Rattle.fields.specs.Rests.{firstLine, Rest}
+use Rattle.characters.specs.Named.{Named, find}
 use Rattle.names.specs.Dictionaries.{entriesFrom, entries, none}
 use Rattle.names.specs.declared.Dictionary.{Dictionary}
 use Rattle.laws.proofs.Tests.{by-test}
@@ -27,7 +28,7 @@ use Rattle.declaration.specs.declared.lines.Progress as code
 use Rattle.declaration.specs.declared.lines.Status.{Status}
 use Rattle.declaration.specs.declared.lines.Status.the-variants.{Goes, Refused}
 use Rattle.declaration.specs.declared.lines.Step as taken
-use Rattle.declaration.specs.Rows.{Row, piecesOf}
+use Rattle.declaration.specs.Rows.{Row, piecesOf, Description}
 use Rattle.text_limits.specs.Limits.{mostBytes, mostRows}
 use Rattle.declaration.specs.Lines.{Progress, refused, next}
 use Rattle.declaration.specs.Stored.{progressOf, stepBy, Within}
@@ -36,12 +37,12 @@ use Rattle.row.specs.Cells as cells
 use Rattle.row_table.specs.RowTable.{rowCells}
 use Rattle.targets.specs.Targets.{MissingTarget, missingAt, noneMissing, firstMissing, lacksLabel}
 use Rattle.row.specs.Stored.{Tables, Comes, Takes, firstGone}
-use Rattle.line.specs.Line.{readLine, Rest}
-use Rattle.description.specs.declared.reader.Answer as reader
+use Rattle.description.specs.Line.{readLine}
+use Rattle.description.specs.declared.reader.Findings.{Findings}
 use Rattle.description.specs.declared.reader.Verdict.{Verdict}
 use Rattle.description.specs.declared.reader.Verdict.the-variants as verdict
-use Rattle.description.specs.Description.{Answer, turnedDown, header, runName, nothing, hasRun, finished, readLines, readBelow, readText}
-use Rattle.description.specs.Stored.{unread, answerBy, firstOf, Finishes, Tells, Answers}
+use Rattle.description.specs.Description.{Acceptance, accepted, turnedDown, keptAt, header, runName, nothing, hasRun, finished, readLines, readBelow, readAll, readText}
+use Rattle.description.specs.Stored.{unread, judged, firstOf, Finishes, refusal, Accepts, Tells, Leaves}
 
 -- what is left of a text
 rest-drop : (text : List ℕ) (k : ℕ) → Rest text (drop k text)
@@ -126,8 +127,46 @@ missing-last : (held n : ℕ) → firstOf held (firstMissing n []) ≡ firstOf h
 unfolding firstMissing
 missing-last held n = refl
 
+abbrev isAccepted : Verdict → Bool
+isAccepted verdict.Accepted = true
+isAccepted (verdict.Refused f n) = false
+
+not-both : (v : Verdict) {f : Fault} {n : ℕ} {P : Type 0} → v ≡ verdict.Refused f n → v ≡ verdict.Accepted → P
+not-both v e k = absurd (mathlib.Core.Bool.false≢true (ap isAccepted (sym e ∙ k)))
+
+-- by what the text comes to
+abbrev isTaken : Acceptance → Bool
+isTaken (accepted d) = true
+isTaken (turnedDown f n) = false
+
+not-taken : {d : Description} {f : Fault} {n : ℕ} {P : Type 0} → turnedDown f n ≡ accepted d → P
+not-taken e = absurd (mathlib.Core.Bool.false≢true (ap isTaken e))
+
+described : Description → Acceptance → Description
+described d (accepted e) = e
+described d (turnedDown f n) = d
+
+accepts-tells : (text : List ℕ) (r : Findings) (d : Description) {code₀ code₁ table₀ table₁ : List ℕ} → Accepts d text r code₀ code₁ table₀ table₁
+    → Tells (accepted d) text r code₀ code₁ table₀ table₁
+unfolding described
+accepts-tells text r d {code₀} {code₁} {table₀} {table₁} a =
+    record {
+      accepts = λ e i. subst (λ (x : Description). Accepts x text r code₀ code₁ table₀ table₁) (ap (described d) i) a;
+      refuses = λ f n i. not-taken (sym i);
+    }
+
+-- the verdict of a text that is turned down
+verdictBy : Acceptance → Verdict
+verdictBy (accepted d) = verdict.Accepted
+verdictBy (turnedDown f n) = verdict.Refused f n
+
+refused-tells : (text : List ℕ) (r : Findings) (f : Fault) (n : ℕ) {code₀ code₁ table₀ table₁ : List ℕ} → r .verdict ≡ verdict.Refused f n
+    → Tells (turnedDown f n) text r code₀ code₁ table₀ table₁
+unfolding verdictBy
+refused-tells text r f n e = record { accepts = λ d i. not-taken i; refuses = λ g k i. e ∙ ap verdictBy i }
+
 -- what the loop over the lines keeps
-pub record Turning (text code₀ table₀ rest : List ℕ) (q : code.Progress) (n : ℕ) (code₁ table₁ : List ℕ) : Type 0 where
+pub record SoFar (text code₀ table₀ rest : List ℕ) (q : code.Progress) (n : ℕ) (code₁ table₁ : List ℕ) : Type 0 where
   pub rows : List Row
   pub is : readBelow (lines (after lineFeed text)) ≡ readLines (lines (after lineFeed text)) (progressOf text q rows) n (lines rest)
   pub missing-is : firstMissing 2 (lines (after lineFeed text)) ≡ firstOf (q .missing) (firstMissing n (lines rest))
@@ -150,11 +189,11 @@ below-from : (text : List ℕ) → readBelow (lines (after lineFeed text)) ≡ r
 unfolding readBelow
 below-from text = ap (λ (p : Progress). readLines (lines (after lineFeed text)) p 2 (lines (after lineFeed text))) (sym (none-yet text))
 
-pub turn-start : (text code₀ table₀ rest : List ℕ) (q : code.Progress) → q ≡ unread → rest ≡ after lineFeed text
-    → Turning text code₀ table₀ rest q 2 code₀ table₀
-turn-start text code₀ table₀ rest q e f =
-    subst (λ (x : code.Progress). Turning text code₀ table₀ rest x 2 code₀ table₀) (sym e)
-    (subst (λ (l : List ℕ). Turning text code₀ table₀ l unread 2 code₀ table₀) (sym f)
+pub so-far-start : (text code₀ table₀ rest : List ℕ) (q : code.Progress) → q ≡ unread → rest ≡ after lineFeed text
+    → SoFar text code₀ table₀ rest q 2 code₀ table₀
+so-far-start text code₀ table₀ rest q e f =
+    subst (λ (x : code.Progress). SoFar text code₀ table₀ rest x 2 code₀ table₀) (sym e)
+    (subst (λ (l : List ℕ). SoFar text code₀ table₀ l unread 2 code₀ table₀) (sym f)
     (record {
       rows = [];
       is = below-from text;
@@ -167,7 +206,7 @@ turn-start text code₀ table₀ rest q e f =
     }))
 
 -- a line more
-module _ (text code₀ table₀ rest : List ℕ) (q : code.Progress) (n : ℕ) (code₁ table₁ : List ℕ) (t : Turning text code₀ table₀ rest q n code₁ table₁) where
+module _ (text code₀ table₀ rest : List ℕ) (q : code.Progress) (n : ℕ) (code₁ table₁ : List ℕ) (t : SoFar text code₀ table₀ rest q n code₁ table₁) where
   module _ (r : taken.Step) (code₂ table₂ : List ℕ) (h : 0 < length rest)
       (k : Takes text (λ (p : Progress). readLine p (lines (after lineFeed rest)) (firstLine rest))
       (firstGone (lacksLabel (before lineFeed rest) (lines (after lineFeed rest))) n (q .missing)) q r code₁ code₂ table₁ table₂) where
@@ -187,11 +226,11 @@ module _ (text code₀ table₀ rest : List ℕ) (q : code.Progress) (n : ℕ) (
     opened : readLines all now n (lines rest) ≡ readLines all now n (firstLine rest ∷ lines (after lineFeed rest))
     opened = ap (readLines all now n) (first-line rest h)
 
-    pub turn-next : (rest′ : List ℕ) (q′ : code.Progress) → rest′ ≡ after lineFeed rest → q′ ≡ r .progress → r .status ≡ Goes
-        → Turning text code₀ table₀ rest′ q′ (n + 1) code₂ table₂
-    turn-next rest′ q′ f g e =
-        subst (λ (l : List ℕ). Turning text code₀ table₀ l q′ (n + 1) code₂ table₂) (sym f)
-        (subst (λ (x : code.Progress). Turning text code₀ table₀ (after lineFeed rest) x (n + 1) code₂ table₂) (sym g)
+    pub so-far-next : (rest′ : List ℕ) (q′ : code.Progress) → rest′ ≡ after lineFeed rest → q′ ≡ r .progress → r .status ≡ Goes
+        → SoFar text code₀ table₀ rest′ q′ (n + 1) code₂ table₂
+    so-far-next rest′ q′ f g e =
+        subst (λ (l : List ℕ). SoFar text code₀ table₀ l q′ (n + 1) code₂ table₂) (sym f)
+        (subst (λ (x : code.Progress). SoFar text code₀ table₀ (after lineFeed rest) x (n + 1) code₂ table₂) (sym g)
         (record {
           rows = came .rows;
           is = t .is ∙ opened ∙ one-line all now n (firstLine rest) (lines (after lineFeed rest)) _ (came-to Goes e);
@@ -207,102 +246,122 @@ module _ (text code₀ table₀ rest : List ℕ) (q : code.Progress) (n : ℕ) (
           count = omega (arith, t .count, length-drop (until lineFeed rest + 1) rest, h);
         }))
 
-    pub turn-refused : (f : Fault) → r .status ≡ Refused f → readBelow (lines (after lineFeed text)) ≡ turnedDown f n
-    turn-refused f e = t .is ∙ opened ∙ bad-line all now n (firstLine rest) (lines (after lineFeed rest)) f (came-to (Refused f) e)
+    pub so-far-refused : (f : Fault) → r .status ≡ Refused f → readBelow (lines (after lineFeed text)) ≡ turnedDown f n
+    so-far-refused f e = t .is ∙ opened ∙ bad-line all now n (firstLine rest) (lines (after lineFeed rest)) f (came-to (Refused f) e)
 
   abbrev below : List fields.Line
   below = lines (after lineFeed text)
 
   -- past the last line
-  pub turn-last : (a : reader.Answer) (v : Verdict) → length rest ≤ 0 → Finishes text q n v
-      → a ≡ record { registers = q .registers; rows = q .rows; verdict = v }
-      → Tells text (readBelow (lines (after lineFeed text))) a code₀ code₁ table₀ table₁
-  turn-last a v h f e =
-      subst (λ (x : reader.Answer). Tells text (readBelow (lines (after lineFeed text))) x code₀ code₁ table₀ table₁) (sym e)
-      (record {
-        rows = t .rows;
-        is =
-            t .is
-            ∙ ap (readLines below (progressOf text q (t .rows)) n) (no-line rest h)
-            ∙ no-lines below (progressOf text q (t .rows)) n
-            ∙ f below (t .rows)
-            (t .missing-is ∙ ap (λ (ls : List fields.Line). firstOf (q .missing) (firstMissing n ls)) (no-line rest h) ∙ missing-last (q .missing) n);
-        rows-are = λ k. t .tables .rows-are;
-        code-is = λ k. t .tables .code-is;
-        table-is = λ k. t .tables .table-is;
-      })
+  pub so-far-last : (r : Findings) (v : Verdict) → length rest ≤ 0 → Finishes text q n v
+      → r ≡ record { registers = q .registers; rows = q .rows; verdict = v }
+      → Tells (readBelow (lines (after lineFeed text))) text r code₀ code₁ table₀ table₁
+  so-far-last r v h f e =
+      subst (λ (x : Acceptance). Tells x text r code₀ code₁ table₀ table₁) (sym (comes-to h f))
+      (subst (λ (x : Findings). Tells (judged v d) text x code₀ code₁ table₀ table₁) (sym e) (by-verdict v))
+    where
+      d : Description
+      d = record { registers = entries text (q .registers); rows = t .rows }
 
-abbrev isAccepted : Verdict → Bool
-isAccepted verdict.Accepted = true
-isAccepted (verdict.Refused f n) = false
+      comes-to : length rest ≤ 0 → Finishes text q n v → readBelow below ≡ judged v d
+      comes-to h f =
+          t .is
+          ∙ ap (readLines below (progressOf text q (t .rows)) n) (no-line rest h)
+          ∙ no-lines below (progressOf text q (t .rows)) n
+          ∙ f below (t .rows)
+          (t .missing-is ∙ ap (λ (ls : List fields.Line). firstOf (q .missing) (firstMissing n ls)) (no-line rest h) ∙ missing-last (q .missing) n)
 
-not-both : (v : Verdict) {f : Fault} {n : ℕ} {P : Type 0} → v ≡ verdict.Refused f n → v ≡ verdict.Accepted → P
-not-both v e k = absurd (mathlib.Core.Bool.false≢true (ap isAccepted (sym e ∙ k)))
-
--- the answer that accepts nothing
-abbrev down : Fault → ℕ → reader.Answer
-down f n = record { registers = none; rows = 0; verdict = verdict.Refused f n }
+      by-verdict : (x : Verdict) → Tells (judged x d) text (record { registers = q .registers; rows = q .rows; verdict = x }) code₀ code₁ table₀ table₁
+      by-verdict verdict.Accepted =
+          accepts-tells text _ d
+          (record { verdict-is = refl; registers-are = refl; rows-are = t .tables .rows-are; code-is = t .tables .code-is; table-is = t .tables .table-is })
+      by-verdict (verdict.Refused f n) = refused-tells text _ f n refl
 
 -- a text that is turned down
-pub tells-refused : (text : List ℕ) (x : Answer) (f : Fault) (n : ℕ) (a : reader.Answer) (code₀ code₁ table₀ table₁ : List ℕ) → a ≡ down f n
+pub tells-refused : (text : List ℕ) (x : Acceptance) (f : Fault) (n : ℕ) (r : Findings) (code₀ code₁ table₀ table₁ : List ℕ) → r ≡ refusal f n
     → x ≡ turnedDown f n
-    → Tells text x a code₀ code₁ table₀ table₁
-tells-refused text x f n a code₀ code₁ table₀ table₁ e g =
-    record {
-      rows = [];
-      is = g ∙ ap (λ (r : reader.Answer). answerBy (r .verdict) (record { registers = entries text (a .registers); rows = [] })) (sym e);
-      rows-are = λ k. other k;
-      code-is = λ k. other k;
-      table-is = λ k. other k;
-    }
-  where
-    other : {P : Type 0} → a .verdict ≡ verdict.Accepted → P
-    other k = not-both (a .verdict) (ap (λ (r : reader.Answer). r .verdict) e) k
+    → Tells x text r code₀ code₁ table₀ table₁
+tells-refused text x f n r code₀ code₁ table₀ table₁ e g =
+    subst (λ (z : Acceptance). Tells z text r code₀ code₁ table₀ table₁) (sym g) (refused-tells text r f n (ap (λ (z : Findings). z .verdict) e))
 
 -- a text of which the definition says the same
-pub tells-as : (text : List ℕ) (x y : Answer) (a : reader.Answer) (code₀ code₁ table₀ table₁ : List ℕ) → x ≡ y → Tells text y a code₀ code₁ table₀ table₁
-    → Tells text x a code₀ code₁ table₀ table₁
-tells-as text x y a code₀ code₁ table₀ table₁ e k = subst (λ (z : Answer). Tells text z a code₀ code₁ table₀ table₁) (sym e) k
+pub tells-as : (text : List ℕ) (x y : Acceptance) (r : Findings) (code₀ code₁ table₀ table₁ : List ℕ) → x ≡ y → Tells y text r code₀ code₁ table₀ table₁
+    → Tells x text r code₀ code₁ table₀ table₁
+tells-as text x y r code₀ code₁ table₀ table₁ e k = subst (λ (z : Acceptance). Tells z text r code₀ code₁ table₀ table₁) (sym e) k
 
--- what a caller finds of a text that is accepted, and of one that is turned down, after which the tables are emptied
-pub answers-accepted : (text : List ℕ) (x : Answer) (a : reader.Answer) (code₀ code₁ table₀ table₁ : List ℕ) → a .verdict ≡ verdict.Accepted
-    → Tells text x a code₀ code₁ table₀ table₁ → Answers text x a code₀ code₁ table₀ table₁
-answers-accepted text x a code₀ code₁ table₀ table₁ e t = record { tells = t; refused = λ f n k. not-both (a .verdict) k e }
+-- what is left of a text that is accepted, and of one that is turned down, after which the tables are emptied
+pub leaves-accepted : (text : List ℕ) (x : Acceptance) (r : Findings) (code₀ code₁ table₀ table₁ : List ℕ) → r .verdict ≡ verdict.Accepted
+    → Tells x text r code₀ code₁ table₀ table₁ → Leaves x text r code₀ code₁ table₀ table₁
+leaves-accepted text x r code₀ code₁ table₀ table₁ e t = record { accepts = t .accepts; empties = λ f n i. not-both (r .verdict) (t .refuses f n i) e }
 
-pub answers-refused : (text : List ℕ) (x : Answer) (f : Fault) (n : ℕ) (a r : reader.Answer) (code₀ code₁ code₂ table₀ table₁ table₂ : List ℕ)
-    → a .verdict ≡ verdict.Refused f n → Tells text x a code₀ code₁ table₀ table₁ → r ≡ down f n → code₂ ≡ replicate (4 * capacity) 0
-    → table₂ ≡ replicate (rowCells * mostRows) 0 → Answers text x r code₀ code₂ table₀ table₂
-answers-refused text x f n a r code₀ code₁ code₂ table₀ table₁ table₂ e t is no-code no-rows =
+pub leaves-refused : (text : List ℕ) (x : Acceptance) (f : Fault) (n : ℕ) (a r : Findings) (code₀ code₁ code₂ table₀ table₁ table₂ : List ℕ)
+    → a .verdict ≡ verdict.Refused f n → Tells x text a code₀ code₁ table₀ table₁ → r ≡ refusal f n → code₂ ≡ replicate (4 * capacity) 0
+    → table₂ ≡ replicate (rowCells * mostRows) 0 → Leaves x text r code₀ code₂ table₀ table₂
+leaves-refused text x f n a r code₀ code₁ code₂ table₀ table₁ table₂ e t is no-code no-rows =
     record {
-      tells =
-          tells-refused text x f n r code₀ code₂ table₀ table₂ is
-          (t .is ∙ ap (λ (v : Verdict). answerBy v (record { registers = entries text (a .registers); rows = t .rows })) e);
-      refused = λ g k q. record {
-        is = is ∙ ap (λ (v : Verdict). record { registers = none; rows = 0; verdict = v }) (sym (ap (λ (z : reader.Answer). z .verdict) is) ∙ q);
-        code-is = no-code;
-        table-is = no-rows;
-      };
+      accepts = λ d i. not-both (a .verdict) e (t .accepts d i .verdict-is);
+      empties = λ g k i.
+          record {
+            is = is ∙ ap (λ (v : Verdict). record { registers = none; rows = 0; verdict = v }) (sym e ∙ t .refuses g k i);
+            code-is = no-code;
+            table-is = no-rows;
+          };
     }
 
+-- what a caller finds of a text, by the verdict
+abbrev pub rowsOf : Acceptance → List Row
+rowsOf (accepted d) = d .rows
+rowsOf (turnedDown f n) = []
+
+pub leaves-is : (text : List ℕ) (x : Acceptance) (r : Findings) {code₀ code₁ table₀ table₁ : List ℕ} → Leaves x text r code₀ code₁ table₀ table₁
+    → x ≡ judged (r .verdict) (record { registers = entries text (r .registers); rows = rowsOf x })
+leaves-is text (accepted d) r l =
+    ap (λ (rs : List Named). accepted (record { registers = rs; rows = d .rows })) (sym (l .accepts d refl .registers-are))
+    ∙ ap (λ (v : Verdict). judged v (record { registers = entries text (r .registers); rows = d .rows })) (sym (l .accepts d refl .verdict-is))
+leaves-is text (turnedDown f n) r l =
+    ap (λ (z : Findings). judged (z .verdict) (record { registers = entries text (r .registers); rows = [] })) (sym (l .empties f n refl .is))
+
+pub leaves-rows : (text : List ℕ) (x : Acceptance) (r : Findings) (code₀ code₁ table₀ table₁ : List ℕ) → r .verdict ≡ verdict.Accepted
+    → Leaves x text r code₀ code₁ table₀ table₁
+    → (r .rows ≡ length (rowsOf x)) × ((code₁ ≡ sets code₀ 0 (cells.code (rowsOf x))) × (table₁ ≡ sets table₀ 0 (cells.cells 0 (rowsOf x))))
+leaves-rows text (accepted d) r code₀ code₁ table₀ table₁ e l =
+    let k = l .accepts d refl in
+    (k .rows-are, (k .code-is, k .table-is))
+leaves-rows text (turnedDown f n) r code₀ code₁ table₀ table₁ e l = not-both (r .verdict) (ap (λ (z : Findings). z .verdict) (l .empties f n refl .is)) e
+
 -- the header
-module _ (s : List ℕ) where
-  pub too-long : leb (length s) mostBytes ≡ false → readText s ≡ turnedDown Size 0
-  unfolding readText
-  too-long a = rw (a, readText)
+pub too-long : (s : List ℕ) → leb (length s) mostBytes ≡ false → readText s ≡ turnedDown Size 0
+unfolding readText
+too-long s a = rw (a, readText)
 
-  pub no-header : leb (length s) mostBytes ≡ true → same (before lineFeed s) header ≡ false → readText s ≡ turnedDown Header 1
-  unfolding readText
-  no-header a b = rw (a, b, readText)
+-- the first of the lines, which an empty text has not
+first-bad : (s : List ℕ) → same (before lineFeed s) header ≡ false → readAll (lines s) ≡ turnedDown Header 1
+unfolding readAll lines
+first-bad [] e = refl
+first-bad (y ∷ s) e = ap readAll (first-line (y ∷ s) (omega arith)) ∙ ap (λ (b : Bool). keptAt 1 b Header (keptAt 1 (firstLine (y ∷ s) .ended) Line (readBelow (lines (after lineFeed (y ∷ s)))))) e
 
-  pub header-alone : leb (length s) mostBytes ≡ true → same (before lineFeed s) header ≡ true → ltb (until lineFeed s) (length s) ≡ false
-      → readText s ≡ turnedDown Line 1
-  unfolding readText
-  header-alone a b c = rw (a, b, c, readText)
+first-good : (s : List ℕ) → same (before lineFeed s) header ≡ true
+    → readAll (lines s) ≡ keptAt 1 (ltb (until lineFeed s) (length s)) Line (readBelow (lines (after lineFeed s)))
+unfolding readAll same run
+first-good [] e = absurd (mathlib.Core.Bool.false≢true e)
+first-good (y ∷ s) e = ap readAll (first-line (y ∷ s) (omega arith)) ∙ ap (λ (b : Bool). keptAt 1 b Header (keptAt 1 (firstLine (y ∷ s) .ended) Line (readBelow (lines (after lineFeed (y ∷ s)))))) e
 
-  pub after-header : leb (length s) mostBytes ≡ true → same (before lineFeed s) header ≡ true → ltb (until lineFeed s) (length s) ≡ true
-      → readText s ≡ readBelow (lines (after lineFeed s))
+module _ (s : List ℕ) (a : leb (length s) mostBytes ≡ true) where
+  short : readText s ≡ readAll (lines s)
   unfolding readText
-  after-header a b c = rw (a, b, c, readText)
+  short = rw (a, readText)
+
+  pub no-header : same (before lineFeed s) header ≡ false → readText s ≡ turnedDown Header 1
+  no-header b = short ∙ first-bad s b
+
+  with-header : same (before lineFeed s) header ≡ true → readText s ≡ keptAt 1 (ltb (until lineFeed s) (length s)) Line (readBelow (lines (after lineFeed s)))
+  with-header b = short ∙ first-good s b
+
+  pub header-alone : same (before lineFeed s) header ≡ true → ltb (until lineFeed s) (length s) ≡ false → readText s ≡ turnedDown Line 1
+  header-alone b c = with-header b ∙ ap (λ (h : Bool). keptAt 1 h Line (readBelow (lines (after lineFeed s)))) c
+
+  pub after-header : same (before lineFeed s) header ≡ true → ltb (until lineFeed s) (length s) ≡ true → readText s ≡ readBelow (lines (after lineFeed s))
+  after-header b c = with-header b ∙ ap (λ (h : Bool). keptAt 1 h Line (readBelow (lines (after lineFeed s)))) c
 
 -- "register RUN of width 1", as the code finds it
 pub run-found : (text : List ℕ) (d : Dictionary) (i n : ℕ) → i ≡ find runName (entries text d) → n ≡ getD (d .numbers) i 0

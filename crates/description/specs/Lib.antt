@@ -1,3 +1,4 @@
+pub mod Line
 pub mod Description
 pub mod Stored
 pub mod Formed

@@ -1,5 +1,5 @@
 // The whole text: line by line, then what is looked for after all lines.
-use crate::limits;
+use crate::line;
 use characters::LINE_FEED;
 use code::CODE_PLACES;
 use declaration::faults::Fault;
@@ -7,16 +7,16 @@ use declaration::lines::Progress;
 use declaration::lines::Status;
 use names::Dictionary;
 use row_table::TABLE_CELLS;
+use text_limits::MOST_BYTES;
 ghost use mathlib.Core.Path.{_≡_};
 ghost use Prim.Native.Nat.{_≤_};
 ghost use lib.ListN.{length};
 ghost use Rattle.characters.specs.Ascii.{lineFeed};
 ghost use Rattle.fields.specs.Fields.{after, lines};
-ghost use Rattle.names.specs.Dictionaries.{entries, none};
+ghost use Rattle.names.specs.Dictionaries.{entries};
 ghost use Rattle.text_limits.specs.Limits.{mostBytes};
-ghost use Rattle.description.specs.declared.reader.Verdict.the-variants as verdict;
 ghost use Rattle.description.specs.Description.{hasRun, readBelow, readText};
-ghost use Rattle.description.specs.Stored.{unread, Finishes, Tells, Answers};
+ghost use Rattle.description.specs.Stored.{unread, Finishes, refusal, Tells, Leaves};
 
 // What a text comes to.
 pub enum Verdict {
@@ -26,7 +26,7 @@ pub enum Verdict {
 }
 
 // The verdict, and of an accepted text the registers, with their widths, and the number of rows.
-pub struct Answer {
+pub struct Findings {
     pub registers: Dictionary,
     pub rows: usize,
     pub verdict: Verdict,
@@ -68,11 +68,11 @@ fn start() -> Progress
     }
 }
 
-// An answer that accepts nothing.
-fn turned_down(f: Fault, line: usize) -> Answer
-    ensures { λ r. ⌜ r ≡ record { registers = none; rows = 0; verdict = verdict.Refused f line } ⌝ }
+// What is found of a text that is turned down: nothing but that.
+fn turned_down(f: Fault, line: usize) -> Findings
+    ensures { λ r. ⌜ r ≡ refusal f line ⌝ }
 {
-    Answer {
+    Findings {
         registers: names::empty(),
         rows: 0,
         verdict: Verdict::Refused(f, line),
@@ -80,9 +80,13 @@ fn turned_down(f: Fault, line: usize) -> Answer
 }
 
 // The lines below the header.
-fn read_lines(text: &[u8], code: &mut [u16; CODE_PLACES], table: &mut [u16; TABLE_CELLS]) -> Answer
+fn read_lines(
+    text: &[u8],
+    code: &mut [u16; CODE_PLACES],
+    table: &mut [u16; TABLE_CELLS],
+) -> Findings
     requires { ⌜ length (now text) ≤ mostBytes ⌝ }
-    ensures { λ r. ⌜ Tells (now (text .entry)) (readBelow (lines (after lineFeed (now (text .entry))))) r
+    ensures { λ r. ⌜ Tells (readBelow (lines (after lineFeed (now (text .entry))))) (now (text .entry)) r
         (now (code .entry)) (now (code .exit)) (now (table .entry)) (now (table .exit)) ⌝ }
 {
     let mut rest = fields::part_after(text, LINE_FEED);
@@ -103,7 +107,7 @@ fn read_lines(text: &[u8], code: &mut [u16; CODE_PLACES], table: &mut [u16; TABL
     }
     let verdict = verdict_of(text, q, n);
     let registers = q.registers;
-    Answer {
+    Findings {
         registers: registers,
         rows: q.rows,
         verdict: verdict,
@@ -111,11 +115,11 @@ fn read_lines(text: &[u8], code: &mut [u16; CODE_PLACES], table: &mut [u16; TABL
 }
 
 // Size, header, and the lines.
-fn read_text(text: &[u8], code: &mut [u16; CODE_PLACES], table: &mut [u16; TABLE_CELLS]) -> Answer
-    ensures { λ r. ⌜ Tells (now (text .entry)) (readText (now (text .entry))) r
+fn read_text(text: &[u8], code: &mut [u16; CODE_PLACES], table: &mut [u16; TABLE_CELLS]) -> Findings
+    ensures { λ r. ⌜ Tells (readText (now (text .entry))) (now (text .entry)) r
         (now (code .entry)) (now (code .exit)) (now (table .entry)) (now (table .exit)) ⌝ }
 {
-    if limits::TEXT_BYTES < text.len() {
+    if MOST_BYTES < text.len() {
         return turned_down(Fault::Size, 0);
     }
     let header = fields::part_before(text, LINE_FEED);
@@ -130,14 +134,14 @@ fn read_text(text: &[u8], code: &mut [u16; CODE_PLACES], table: &mut [u16; TABLE
 }
 
 // Reads a description: what it says goes into the lent tables, which are empty after a refusal.
-pub fn read(text: &[u8], code: &mut [u16; CODE_PLACES], table: &mut [u16; TABLE_CELLS]) -> Answer
-    ensures { λ r. ⌜ Answers (now (text .entry)) (readText (now (text .entry))) r
+pub fn read(text: &[u8], code: &mut [u16; CODE_PLACES], table: &mut [u16; TABLE_CELLS]) -> Findings
+    ensures { λ r. ⌜ Leaves (readText (now (text .entry))) (now (text .entry)) r
         (now (code .entry)) (now (code .exit)) (now (table .entry)) (now (table .exit)) ⌝ }
 {
-    let answer = read_text(text, code, table);
-    let verdict = answer.verdict;
+    let findings = read_text(text, code, table);
+    let verdict = findings.verdict;
     match verdict {
-        Verdict::Accepted => answer,
+        Verdict::Accepted => findings,
         Verdict::Refused(f, line) => {
             *code = [0; CODE_PLACES];
             *table = [0; TABLE_CELLS];

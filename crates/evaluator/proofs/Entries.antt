@@ -8,6 +8,7 @@ use native.Mathlib.Nat.{mod-eq-of-lt}
 use native.Mathlib.Omega.{arith}
 use lib.Dec.{eqb, ltb}
 use lib.ListN.{length, getD, take, drop, List·getD-eq-default}
+use lib.Seq.{sets}
 use borrow.Author.Tests.{ltb-true, ltb-false}
 use Rattle.word.specs.Choice.{pick}
 use Rattle.word.specs.Word.{widest, fits}
@@ -35,12 +36,14 @@ use Rattle.declaration.specs.Rows.{Description}
 use Rattle.declaration.specs.Faults.{numberOf}
 use Rattle.declaration.specs.declared.faults.Fault.{Fault}
 use Rattle.row_table.specs.RowTable.{rowCells}
-use Rattle.description.specs.declared.reader.Answer as reader
+use Rattle.description.specs.declared.reader.Findings.{Findings}
 use Rattle.description.specs.declared.reader.Verdict as verdict
 use Rattle.description.specs.declared.reader.Verdict.the-variants.{Accepted, Refused}
+use Rattle.row.specs.Cells as row
 use Rattle.description.specs.Description.{runName, readText}
 use Rattle.description.specs.Formed.{Formed}
-use Rattle.description.specs.Stored.{answerBy, Answers}
+use Rattle.description.specs.Stored.{judged, Leaves}
+use Rattle.description.proofs.Texts.{rowsOf, leaves-is, leaves-rows}
 use Rattle.description.proofs.Formed.{accepted-keeps}
 use Rattle.value.specs.Value.{State}
 use Rattle.value.specs.Fitting.{registerPlaces}
@@ -71,12 +74,12 @@ state-ext v w e values memory budget =
     (unfit-ext (λ k. getD v k 0) (λ k. getD w k 0) e 0 values)
 
 -- a text, what the reader answers, and the tables that it leaves
-module _ (text : List ℕ) (r : reader.Answer) {code₀ code table₀ table : List ℕ} (answers : Answers text (readText text) r code₀ code table₀ table) where
+module _ (text : List ℕ) (r : Findings) {code₀ code table₀ table : List ℕ} (leaves : Leaves (readText text) text r code₀ code table₀ table) where
   abbrev described : Description
-  described = record { registers = entries text (r .registers); rows = answers .tells .rows }
+  described = record { registers = entries text (r .registers); rows = rowsOf (readText text) }
 
-  read-is : {v : verdict.Verdict} → r .verdict ≡ v → readText text ≡ answerBy v described
-  read-is e = answers .tells .is ∙ ap (λ (v : verdict.Verdict). answerBy v described) e
+  read-is : {v : verdict.Verdict} → r .verdict ≡ v → readText text ≡ judged v described
+  read-is e = leaves-is text (readText text) r leaves ∙ ap (λ (v : verdict.Verdict). judged v described) e
 
   pub text-refused : (registers memory : List ℕ) (budget : ℕ) (list : List ℕ) (f : Fault) (n : ℕ) → r .verdict ≡ Refused f n
       → evaluate text registers memory budget list ≡ refused (numberOf f) n registers memory list
@@ -85,6 +88,9 @@ module _ (text : List ℕ) (r : reader.Answer) {code₀ code table₀ table : Li
 
   -- a text that is taken
   module _ (told : r .verdict ≡ Accepted) where
+    stored : (r .rows ≡ length (described .rows)) × ((code ≡ sets code₀ 0 (row.code (described .rows))) × (table ≡ sets table₀ 0 (row.cells 0 (described .rows))))
+    stored = leaves-rows text (readText text) r code₀ code table₀ table told leaves
+
     formed : Formed described
     formed = accepted-keeps text described (read-is told) .formed
 
@@ -160,7 +166,7 @@ module _ (text : List ℕ) (r : reader.Answer) {code₀ code table₀ table : Li
         -- the rows are within their limit, memory has its words, and the caller's list has room
         pub run-ready : (r .rows ≤ mostRows) × ((length memory ≡ memoryWords) × (mostRows ≤ length list))
         run-ready =
-            (omega (arith, answers .tells .rows-are told, formed .few-rows), (sound .0 .size, row-list-long (length list) (outer .1)))
+            (omega (arith, stored .0, formed .few-rows), (sound .0 .size, row-list-long (length list) (outer .1)))
 
         fits-registers : length registers ≡ registerPlaces → fitting.Fit (described .registers) start
         fits-registers places =
@@ -171,7 +177,7 @@ module _ (text : List ℕ) (r : reader.Answer) {code₀ code table₀ table : Li
             → finished (coursing code table (r .rows) place budget start) list ≡ evaluate text registers memory budget list
         run-told places lc lt place p =
             ap (λ (x : Run). finished x list)
-            (tables-run described formed code₀ table₀ code table (r .rows) place (answers .tells .rows-are told) lc lt (answers .tells .code-is told) (answers .tells .table-is told)
+            (tables-run described formed code₀ table₀ code table (r .rows) place (stored .0) lc lt (stored .1 .0) (stored .1 .1)
             (run-read place p) budget start (fits-registers places))
             ∙ sym (evaluated e)
 

@@ -61,7 +61,7 @@ abbrev pub check : Description → List ℕ → List ℕ → ℕ → List ℕ �
 check d registers memory budget list = orElse (checkState (widthsOf d) registers memory budget) (checkRowList (length list))
 
 -- "Tried after the text"
-unfoldable pub evaluateOf : text.Answer → List ℕ → List ℕ → ℕ → List ℕ → Report
+unfoldable pub evaluateOf : text.Acceptance → List ℕ → List ℕ → ℕ → List ℕ → Report
 evaluateOf (turnedDown f n) registers memory budget list = refused (numberOf f) n registers memory list
 evaluateOf (accepted d) registers memory budget list =
     elim (check d registers memory budget list) [

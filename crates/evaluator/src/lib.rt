@@ -7,12 +7,12 @@ use cycles::run;
 use declaration::faults::Fault;
 use description::reader;
 use plan::PLAN_PLACES;
-use row::limits::ROWS;
 use row_table::TABLE_CELLS;
 use state::Reason;
 use state::Refusal;
 use state::Verdict;
 use store::Registers;
+use text_limits::MOST_ROWS;
 ghost use mathlib.Core.Path.{_≡_};
 ghost use Prim.Native.Nat.{_≤_};
 ghost use lib.ListN.{length};
@@ -55,7 +55,7 @@ fn run_rows(
 {
     let mut plan = [0u16; PLAN_PLACES];
     plan::plan_rows(code, table, count, &mut plan);
-    let mut acted = [0u8; ROWS];
+    let mut acted = [0u8; MOST_ROWS];
     let end = run::run(
         &plan,
         code,

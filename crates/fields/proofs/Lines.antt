@@ -12,7 +12,8 @@ use lib.ListN.{length, take, drop, length-take, length-drop}
 use borrow.Author.Tests.{lt-ltb}
 use Rattle.characters.specs.Characters.{run}
 use Rattle.characters.specs.Ascii.{tab, lineFeed}
-use Rattle.fields.specs.Fields.{until, before, after, push, lines, firstLine, field, hasFields}
+use Rattle.fields.specs.Fields.{until, before, after, push, lines, field, hasFields}
+use Rattle.fields.specs.Rests.{firstLine}
 use Rattle.characters.specs.declared.Class.the-variants.{Other}
 use Rattle.characters.proofs.Runs.{run-le, run-more, run-none}
 use Rattle.laws.proofs.Tests.{by-test}

@@ -36,10 +36,6 @@ unfoldable pub lines : List ℕ → List Line
 lines [] = []
 lines (b ∷ s) = elim (eqb b lineFeed) [ true ↦ record { bytes = []; ended = true } ∷ lines s | false ↦ push b (lines s) ]
 
--- the first line of a text
-abbrev pub firstLine : List ℕ → Line
-firstLine s = record { bytes = before lineFeed s; ended = ltb (until lineFeed s) (length s) }
-
 -- field n of a line, from 0
 unfoldable pub field : ℕ → List ℕ → List ℕ
 field zero s = before tab s

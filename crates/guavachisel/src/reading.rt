@@ -16,8 +16,8 @@ pub extern "C" fn guavachisel_read(text: &[u8], outcome: &mut [u64; OUTCOME_PLAC
 {
     let mut code = [0u16; CODE_PLACES];
     let mut table = [0u16; TABLE_CELLS];
-    let answer = description::reader::read(text, &mut code, &mut table);
-    let verdict = answer.verdict;
+    let findings = description::reader::read(text, &mut code, &mut table);
+    let verdict = findings.verdict;
     match verdict {
         Verdict::Accepted => {
             *outcome = outcome::answered(0);

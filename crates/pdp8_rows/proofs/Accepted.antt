@@ -19,16 +19,16 @@ use Rattle.declaration.specs.Rows.{piecesOf}
 use Rattle.declaration.specs.Lines.{addRegister, regLine, addLabel, atLine}
 use Rattle.targets.specs.Targets.{passes, firstMissing}
 use Rattle.row.specs.Lines.{addRow, addDo, doLine, addGo, goLine}
-use Rattle.description.specs.Description.{accepted, finished, readLines, readBelow, readText}
-use Rattle.line.specs.Line.{readLine}
+use Rattle.description.specs.Description.{accepted, finished, readLines, readBelow, readAll, readText}
+use Rattle.description.specs.Line.{byWord, readLine}
 use Rattle.pdp8_rows.specs.Text.{shippedText}
 use Rattle.pdp8_rows.specs.Shipped.{mostShippedRows, shipped}
 
 pub shipped-accepted : readText shippedText ≡ accepted shipped
 unfolding run runEnd same numberAt decimalAt markedAt shortestFrom ofDecimal constantAt lines field hasFields isName find findIn operatorRow tokenEnd
     operatorAt secondBit firstBit spanAt partOf registerAt referenceAt limited ofReference ofConstant notOf closed rotationOf joined level whole
-    expression ofName ofAddress memoryAt destination addRegister regLine piecesOf addRow addDo doLine passes addGo goLine addLabel atLine readLine firstMissing
-    finished readLines readBelow readText shippedText
+    expression ofName ofAddress memoryAt destination addRegister regLine piecesOf addRow addDo doLine passes addGo goLine addLabel atLine byWord readLine firstMissing
+    finished readLines readBelow readAll readText shippedText
 shipped-accepted = refl
 
 pub shipped-short : length (shipped .rows) ≤ mostShippedRows

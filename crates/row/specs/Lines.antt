@@ -2,7 +2,7 @@
 -- "within one, lower numbers first, left field first"
 -- Assumes nothing.
 use Prim.Native.Nat.{ℕ, _+_}
-use mathlib.Core.Bool.{true, false, _&&_}
+use mathlib.Core.Bool.{_&&_}
 use mathlib.Core.List.{List}
 use lib.Dec.{leb, ltb}
 use lib.ListN.{length}
@@ -16,13 +16,12 @@ use Rattle.targets.specs.declared.Target.{Target}
 use Rattle.targets.specs.declared.Target.the-variants.{Passes, Missing}
 use Rattle.declaration.specs.Rows.{Row, does, goes, rowPieces, piecesOf}
 use Rattle.text_limits.specs.Limits.{mostRows, allPieces}
-use Rattle.declaration.specs.Lines.{Progress, withRow, Step, refused, next}
+use Rattle.declaration.specs.Lines.{Progress, withRow, Step, refused, next, kept}
 use Rattle.targets.specs.Targets.{passes}
 
 -- "the .. 129th row .. or 1,025th piece"
 unfoldable pub addRow : Progress → Row → Step
-addRow p r =
-    elim (ltb (length (p .rows)) mostRows && leb (piecesOf (p .rows) + rowPieces r) allPieces) [ true ↦ next (withRow p r) | false ↦ refused Limit ]
+addRow p r = kept (ltb (length (p .rows)) mostRows && leb (piecesOf (p .rows) + rowPieces r) allPieces) Limit (next (withRow p r))
 
 -- "an expression or destination outside the rules, unknown names included"
 unfoldable pub addDo : Progress → Reading → DestinationReading → Reading → Step
@@ -34,10 +33,8 @@ addDo p outside d e = refused Expression
 -- "`do`, condition, destination, expression"
 unfoldable pub doLine : Progress → List ℕ → Step
 doLine p s =
-    elim (hasFields 4 s) [
-      | true ↦ addDo p (expression (p .registers) (field 1 s)) (destination (p .registers) (field 2 s)) (expression (p .registers) (field 3 s))
-      | false ↦ refused Line
-    ]
+    kept (hasFields 4 s) Line
+    (addDo p (expression (p .registers) (field 1 s)) (destination (p .registers) (field 2 s)) (expression (p .registers) (field 3 s)))
 
 -- the rows passed over. A text in which a label is missing is turned down after all lines, whatever stands here for it.
 abbrev pub rowsPassed : Target → ℕ
@@ -46,13 +43,9 @@ rowsPassed Missing = 0
 
 -- "a malformed `go` label"
 unfoldable pub addGo : Progress → List ℕ → Target → Reading → Step
-addGo p label t (read c x) = elim (isName label) [ true ↦ addRow p (goes c (rowsPassed t)) | false ↦ refused Label ]
+addGo p label t (read c x) = kept (isName label) Label (addRow p (goes c (rowsPassed t)))
 addGo p label t outside = refused Expression
 
 -- "`go`, condition, label", above the lines below it
 unfoldable pub goLine : Progress → List text.Line → List ℕ → Step
-goLine p below s =
-    elim (hasFields 3 s) [
-      | true ↦ addGo p (field 2 s) (passes (field 2 s) below) (expression (p .registers) (field 1 s))
-      | false ↦ refused Line
-    ]
+goLine p below s = kept (hasFields 3 s) Line (addGo p (field 2 s) (passes (field 2 s) below) (expression (p .registers) (field 1 s)))

@@ -2,7 +2,6 @@
 use crate::actions;
 use crate::actions::RowRead;
 use crate::cells;
-use crate::limits;
 use code::CODE_PLACES;
 use code::Cursor;
 use code::Part;
@@ -15,6 +14,8 @@ use expression::read_expression;
 use row_table::ROW_CELLS;
 use row_table::TABLE_CELLS;
 use targets::Target;
+use text_limits::ALL_PIECES;
+use text_limits::MOST_ROWS;
 ghost use mathlib.Core.Path.{_≡_};
 ghost use Prim.Native.Nat.{_≤_};
 ghost use lib.ListN.{length};
@@ -74,7 +75,7 @@ fn add_row(
     requires { ⌜ q .rows ≤ mostRows ⌝ }
     ensures { λ r. ⌜ Put q cells end missing r (now (table .entry)) (now (table .exit)) ⌝ }
 {
-    if (q.rows < limits::ROWS) & (end.pieces <= limits::PIECES) {
+    if (q.rows < MOST_ROWS) & (end.pieces <= ALL_PIECES) {
         cells::put_row(table, q.rows, cells);
         return one_more(q, end, missing);
     }

@@ -1,4 +1,5 @@
 // The table of rows: nine cells for each row, one row behind the other.
+use text_limits::MOST_ROWS;
 ghost use mathlib.Core.Path.{_≡_};
 ghost use Prim.Native.Nat.{_*_, _+_, _<_};
 ghost use lib.ListN.{getD};
@@ -9,8 +10,8 @@ ghost use Rattle.row_table.specs.RowTable.{rowCells};
 // destination; rows passed over.
 pub const ROW_CELLS: usize = 9;
 
-// The cells of 128 rows.
-pub const TABLE_CELLS: usize = 1152;
+// The cells of all rows that a text may have.
+pub const TABLE_CELLS: usize = ROW_CELLS * MOST_ROWS;
 
 // Cell j of a row of the table.
 pub fn cell(table: &[u16; TABLE_CELLS], row: usize, j: usize) -> u16

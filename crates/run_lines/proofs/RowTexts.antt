@@ -15,7 +15,8 @@ use Rattle.page.specs.Text.{decimalIn, decimal}
 use Rattle.page.proofs.Numbers.{decimal-length}
 use Rattle.characters.specs.Characters.{run, same}
 use Rattle.characters.specs.Ascii.{lineFeed}
-use Rattle.fields.specs.Fields.{before, after, Line, lines, firstLine, field}
+use Rattle.fields.specs.Fields.{before, after, Line, lines, field}
+use Rattle.fields.specs.Rests.{firstLine}
 use Rattle.fields.proofs.Lines.{first-line}
 use Rattle.laws.proofs.Joined.{and-left, and-right}
 use Rattle.pdp8_rows.specs.Text.{shippedText}

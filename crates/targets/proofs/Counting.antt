@@ -8,7 +8,8 @@ use native.Mathlib.Nat.{add-zero, zero-add}
 use native.Mathlib.Omega.{arith}
 use lib.ListN.{length}
 use Rattle.characters.specs.Ascii.{lineFeed}
-use Rattle.fields.specs.Fields.{before, after, Line, lines, firstLine}
+use Rattle.fields.specs.Fields.{before, after, Line, lines}
+use Rattle.fields.specs.Rests.{firstLine}
 use Rattle.fields.proofs.Lines.{first-line, no-line}
 use Rattle.targets.specs.declared.Target.{Target}
 use Rattle.targets.specs.declared.Target.the-variants.{Passes, Missing}

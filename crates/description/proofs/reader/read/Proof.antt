@@ -1,7 +1,7 @@
 -- `reader::read`: what an accepted text leaves, and the tables emptied after a refusal.
 use mathlib.Core.Path.{refl}
 use borrow.Author.Needs.{needs}
-use Rattle.description.proofs.Texts.{answers-accepted, answers-refused}
+use Rattle.description.proofs.Texts.{leaves-accepted, leaves-refused}
 use Rattle.description.proofs.reader.read.Statement.{statement}
 use Rattle.description.proofs.reader.read.Tie as tie
 
@@ -18,12 +18,12 @@ turned-down-requires : tie.Need-turned-down-requires
 turned-down-requires c κs = search needs
 
 returns : tie.Need-returns
-returns c = answers-accepted _ _ _ _ _ _ _ (c .enum-told .given .1) (c .before .before .read-text .ensures)
+returns c = leaves-accepted _ _ _ _ _ _ _ (c .enum-told .given .1) (c .before .before .read-text .ensures)
 
 returns-2 : tie.Need-returns-2
 returns-2 c =
     let refused = c .before .before .before .before in
-    answers-refused _ _ _ _ _ _ _ _ _ _ _ _ (refused .verdict .given .1) (refused .before .before .read-text .ensures) (c .turned-down .ensures) refl refl
+    leaves-refused _ _ _ _ _ _ _ _ _ _ _ _ (refused .verdict .given .1) (refused .before .before .read-text .ensures) (c .turned-down .ensures) refl refl
 
 pub read-spec : {M : Type 1} → statement M
 read-spec =

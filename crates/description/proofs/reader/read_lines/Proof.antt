@@ -4,14 +4,14 @@ use native.Mathlib.Omega.{arith}
 use lib.ListN.{length}
 use Rattle.fields.proofs.Lines.{after-shorter}
 use Rattle.characters.specs.Ascii.{lineFeed}
-use Rattle.description.proofs.Texts.{Turning, turn-start, turn-refused, turn-next, turn-last, tells-refused}
+use Rattle.description.proofs.Texts.{SoFar, so-far-start, so-far-refused, so-far-next, so-far-last, tells-refused}
 use borrow.Author.Needs.{needs}
 use Rattle.description.proofs.reader.read_lines.Statement.{statement}
 use Rattle.description.proofs.reader.read_lines.Tie as tie
 
 abbrev Inv-loop : tie.InvT-loop
 Inv-loop text code₀ table₀ rest₀ q₀ n₀ code table rest q n =
-    Turning text code₀ table₀ rest q n code table
+    SoFar text code₀ table₀ rest q n code table
 
 abbrev μ-loop : tie.MeasureT-loop
 μ-loop text code₀ table₀ rest₀ q₀ n₀ code table rest q n =
@@ -25,7 +25,7 @@ start-requires c κs = search needs
 
 loop-holds : tie.Need-loop-holds Inv-loop μ-loop
 loop-holds c =
-    turn-start (c .before .before .before .args .text .now) _ _ _ _ (c .start .ensures) (c .before .part-after .ensures)
+    so-far-start (c .before .before .before .args .text .now) _ _ _ _ (c .start .ensures) (c .before .part-after .ensures)
 
 read-line-requires : tie.Need-read-line-requires Inv-loop μ-loop
 read-line-requires c κs =
@@ -48,7 +48,7 @@ returns c =
     let loop = test .before in
     let text = loop .before .before .before .before .args .text .now in
     tells-refused text _ _ _ _ _ _ _ _ (c .turned-down .ensures)
-    (turn-refused text _ _ _ _ _ _ _ (loop .loop .inv) _ _ _ (test .loop-test .taken) line _ (c .before .before .status .given .1))
+    (so-far-refused text _ _ _ _ _ _ _ (loop .loop .inv) _ _ _ (test .loop-test .taken) line _ (c .before .before .status .given .1))
 
 part-after-requires-2 : tie.Need-part-after-requires-2 Inv-loop μ-loop
 part-after-requires-2 c κs = search needs
@@ -69,7 +69,7 @@ loop-again c =
     let test = c .before .before .before .before .before .before .before in
     let loop = test .before in
     let text = loop .before .before .before .before .args .text .now in
-    turn-next text _ _ _ _ _ _ _ (loop .loop .inv) _ _ _ (test .loop-test .taken) line _ _ (c .part-after2 .ensures) refl
+    so-far-next text _ _ _ _ _ _ _ (loop .loop .inv) _ _ _ (test .loop-test .taken) line _ _ (c .part-after2 .ensures) refl
     (c .before .before .enum-told .given .1)
 
 verdict-of-requires : tie.Need-verdict-of-requires Inv-loop μ-loop
@@ -79,7 +79,7 @@ returns-2 : tie.Need-returns-2 Inv-loop μ-loop
 returns-2 c =
     let loop = c .before .before .before in
     let text = loop .before .before .before .before .args .text .now in
-    turn-last text _ _ _ _ _ _ _ (loop .loop .inv) _ _ (c .before .before .loop-test .left) (c .before .verdict-of .ensures) refl
+    so-far-last text _ _ _ _ _ _ _ (loop .loop .inv) _ _ (c .before .before .loop-test .left) (c .before .verdict-of .ensures) refl
 
 pub read-lines-spec : {M : Type 1} → statement M
 read-lines-spec =

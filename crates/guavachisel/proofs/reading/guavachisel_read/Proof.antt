@@ -1,6 +1,7 @@
--- `guavachisel_read` hands over each case of the reader's answer.
+-- `guavachisel_read` hands over each case of the reader's verdict.
 use mathlib.Core.Path.{sym, ap, _∙_}
-use Rattle.description.specs.Description.{Answer}
+use Rattle.description.specs.Description.{Acceptance}
+use Rattle.description.proofs.Texts.{leaves-is}
 use borrow.Author.Needs.{needs}
 use Rattle.guavachisel.specs.Outcome.{places}
 use Rattle.guavachisel.specs.Reading.{outcomeOf}
@@ -25,12 +26,12 @@ unread-requires c κs = search needs
 returns : tie.Need-returns
 returns c =
     c .answered .ensures
-    ∙ sym (ap (λ (a : Answer). places (outcomeOf a)) (rw (c .before .enum-told .given .1) at (c .before .before .before .read .ensures .tells .is)))
+    ∙ sym (ap (λ (a : Acceptance). places (outcomeOf a)) (rw (c .before .enum-told .given .1) at (leaves-is _ _ _ (c .before .before .before .read .ensures))))
 
 returns-2 : tie.Need-returns-2
 returns-2 c =
     c .unread .ensures
-    ∙ sym (ap (λ (a : Answer). places (outcomeOf a)) (rw (c .before .before .verdict .given .1) at (c .before .before .before .before .read .ensures .tells .is)))
+    ∙ sym (ap (λ (a : Acceptance). places (outcomeOf a)) (rw (c .before .before .verdict .given .1) at (leaves-is _ _ _ (c .before .before .before .before .read .ensures))))
 
 pub guavachisel-read-spec : {M : Type 1} → statement M
 guavachisel-read-spec =

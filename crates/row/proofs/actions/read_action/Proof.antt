@@ -1,8 +1,6 @@
 -- `actions::read_action`: destination and value, one behind the other.
 use mathlib.Core.Path.{refl, sym, ap, _∙_}
 use mathlib.Core.Bool.{true}
-use mathlib.Core.List.{List}
-use Prim.Native.Nat.{ℕ}
 use native.Mathlib.Omega.{arith}
 use Rattle.laws.proofs.Tests.{not-so}
 use Rattle.names.specs.Dictionaries.{entries}

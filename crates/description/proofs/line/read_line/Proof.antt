@@ -10,10 +10,10 @@ use Rattle.declaration.specs.Lines.{regWord, atWord}
 use Rattle.declaration.proofs.Fields.{after-le}
 use Rattle.row.proofs.RowLines.{takes-plain}
 use borrow.Author.Tests.{not-true, not-false}
-use Rattle.line.proofs.FirstWords.{line-stands, line-fits, fit-length, comes-unfit, comes-reg, comes-do, comes-go, comes-at, comes-unknown}
+use Rattle.description.proofs.FirstWords.{line-stands, line-fits, fit-length, comes-unfit, comes-reg, comes-do, comes-go, comes-at, comes-unknown}
 use borrow.Author.Needs.{needs}
-use Rattle.line.proofs.read_line.Statement.{statement}
-use Rattle.line.proofs.read_line.Tie as tie
+use Rattle.description.proofs.line.read_line.Statement.{statement}
+use Rattle.description.proofs.line.read_line.Tie as tie
 
 part-before-requires : tie.Need-part-before-requires
 part-before-requires c κs = search needs

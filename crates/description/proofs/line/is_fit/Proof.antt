@@ -11,8 +11,8 @@ use Rattle.fields.proofs.Lines.{before-length}
 use Rattle.characters.proofs.Runs.{from-start}
 use Rattle.text_limits.specs.Limits.{longestLine}
 use borrow.Author.Needs.{needs}
-use Rattle.line.proofs.is_fit.Statement.{statement}
-use Rattle.line.proofs.is_fit.Tie as tie
+use Rattle.description.proofs.line.is_fit.Statement.{statement}
+use Rattle.description.proofs.line.is_fit.Tie as tie
 
 run-end-requires : tie.Need-run-end-requires
 run-end-requires c κs = search needs

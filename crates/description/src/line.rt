@@ -8,20 +8,19 @@ use declaration::lines::Progress;
 use declaration::lines::Step;
 use row::rows;
 use row_table::TABLE_CELLS;
+use text_limits::LONGEST_LINE;
 ghost use mathlib.Core.Path.{_≡_};
 ghost use Prim.Native.Nat.{_≤_};
 ghost use lib.Dec.{ltb};
 ghost use lib.ListN.{length};
 ghost use Rattle.characters.specs.Ascii.{lineFeed};
-ghost use Rattle.fields.specs.Fields.{until, before, after, lines, firstLine};
+ghost use Rattle.fields.specs.Fields.{until, before, after, lines};
+ghost use Rattle.fields.specs.Rests.{firstLine, Rest};
 ghost use Rattle.text_limits.specs.Limits.{mostBytes};
 ghost use Rattle.declaration.specs.Stored.{Within};
 ghost use Rattle.targets.specs.Targets.{lacksLabel};
 ghost use Rattle.row.specs.Stored.{Takes, firstGone};
-ghost use Rattle.line.specs.Line.{isFit, readLine, Rest};
-
-// "200 bytes .. pass."
-const LINE_BYTES: usize = 200;
+ghost use Rattle.description.specs.Line.{isFit, readLine};
 
 // Whether the first line of a rest ends with LF, is short enough, and holds only bytes that a line may hold.
 fn is_fit(line: &[u8], rest: &[u8]) -> bool
@@ -29,11 +28,11 @@ fn is_fit(line: &[u8], rest: &[u8]) -> bool
     ensures { λ r. ⌜ r ≡ isFit (record { bytes = now (line .entry); ended = ltb (until lineFeed (now (rest .entry))) (length (now (rest .entry))) }) ⌝ }
 {
     let end = characters::run_end(line, 0, Class::Printable);
-    (line.len() < rest.len()) & (line.len() <= LINE_BYTES) & (end == line.len())
+    (line.len() < rest.len()) & (line.len() <= LONGEST_LINE) & (end == line.len())
 }
 
 // Line n, with which the rest of the text begins.
-pub fn read_line(
+pub(crate) fn read_line(
     text: &[u8],
     q: Progress,
     n: usize,

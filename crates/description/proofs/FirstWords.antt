@@ -12,7 +12,8 @@ use Rattle.characters.specs.Characters.{run, same}
 use Rattle.characters.specs.declared.Class.the-variants.{Other, Printable}
 use Rattle.fields.specs.Fields as fields
 use Rattle.characters.specs.Ascii.{lineFeed}
-use Rattle.fields.specs.Fields.{until, before, after, lines, field, firstLine}
+use Rattle.fields.specs.Fields.{until, before, after, lines, field}
+use Rattle.fields.specs.Rests.{firstLine, Rest}
 use Rattle.laws.proofs.Joined.{and-left, and-right}
 use Rattle.characters.proofs.Runs.{run-le}
 use Rattle.characters.proofs.Strings.{equal}
@@ -28,7 +29,7 @@ use Rattle.row.specs.Lines.{doLine, goLine}
 use Rattle.targets.specs.Targets.{passes, isMissing, lacksLabel}
 use Rattle.row.specs.Stored.{Takes, firstGone}
 use Rattle.row.proofs.RowLines.{takes-refused, takes-as}
-use Rattle.line.specs.Line.{isFit, readLine, Rest}
+use Rattle.description.specs.Line.{isFit, byWord, readLine}
 
 -- a line, by its first word
 module _ (p : Progress) (below : List fields.Line) (l : fields.Line) where
@@ -36,30 +37,30 @@ module _ (p : Progress) (below : List fields.Line) (l : fields.Line) where
   word = field 0 (l .bytes)
 
   line-unfit : isFit l ≡ false → readLine p below l ≡ refused Line
-  unfolding readLine
-  line-unfit e = rw (e, readLine)
+  unfolding readLine byWord
+  line-unfit e = rw (e, byWord, readLine)
 
   line-reg : isFit l ≡ true → same word regWord ≡ true → readLine p below l ≡ regLine p (l .bytes)
-  unfolding readLine
-  line-reg e a = rw (e, a, readLine)
+  unfolding readLine byWord
+  line-reg e a = rw (e, a, byWord, readLine)
 
   line-do : isFit l ≡ true → same word regWord ≡ false → same word doWord ≡ true → readLine p below l ≡ doLine p (l .bytes)
-  unfolding readLine
-  line-do e a b = rw (e, a, b, readLine)
+  unfolding readLine byWord
+  line-do e a b = rw (e, a, b, byWord, readLine)
 
   line-go : isFit l ≡ true → same word regWord ≡ false → same word doWord ≡ false → same word goWord ≡ true → readLine p below l ≡ goLine p below (l .bytes)
-  unfolding readLine
-  line-go e a b c = rw (e, a, b, c, readLine)
+  unfolding readLine byWord
+  line-go e a b c = rw (e, a, b, c, byWord, readLine)
 
   line-at : isFit l ≡ true → same word regWord ≡ false → same word doWord ≡ false → same word goWord ≡ false → same word atWord ≡ true
       → readLine p below l ≡ atLine p (l .bytes)
-  unfolding readLine
-  line-at e a b c d = rw (e, a, b, c, d, readLine)
+  unfolding readLine byWord
+  line-at e a b c d = rw (e, a, b, c, d, byWord, readLine)
 
   line-unknown : isFit l ≡ true → same word regWord ≡ false → same word doWord ≡ false → same word goWord ≡ false → same word atWord ≡ false
       → readLine p below l ≡ refused Line
-  unfolding readLine
-  line-unknown e a b c d = rw (e, a, b, c, d, readLine)
+  unfolding readLine byWord
+  line-unknown e a b c d = rw (e, a, b, c, d, byWord, readLine)
 
 -- a `reg` or a `do` is no `go`
 reg-no-go : (s : List ℕ) → same s regWord ≡ true → same s goWord ≡ false

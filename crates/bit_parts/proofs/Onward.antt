@@ -29,7 +29,8 @@ use Rattle.bit_parts.specs.declared.Reference.the-variants.{Whole, Part,
 use Rattle.operators.specs.Operators.{table, entryIn}
 use Rattle.operators.proofs.Rows.{row-small}
 use Rattle.operators.specs.OperatorNames.{operatorNames, findIn, operatorRow}
-use Rattle.tokens.specs.Tokens.{angleOpen, angleClose, colon, skip, next, slice, tokenEnd, operatorAt, operatorEnd}
+use Rattle.tokens.specs.Tokens.{skip, next, slice, tokenEnd, operatorAt, afterToken}
+use Rattle.tokens.specs.Signs.{angleOpen, angleClose, colon}
 use Rattle.bit_parts.specs.References.{secondBit, firstBit, spanAt, partOf, widthIn, registerAt, referenceAt}
 use Rattle.laws.proofs.Lists.{present}
 use Rattle.tokens.proofs.Tokens.{token-inside}
@@ -213,8 +214,7 @@ module _ (s : List ℕ) (at k : ℕ) (e : entryIn (operatorAt s at) .strength �
       (λ t. ltb-true (skip s at) (length s) t)
       (λ t. absurd (omega (arith, in-table, no-operator s at (ltb-false (skip s at) (length s) t))))
 
-  pub operator-past : (operatorAt s at < length table) × Past s at (operatorEnd s at)
-  unfolding operatorEnd
+  pub operator-past : (operatorAt s at < length table) × Past s at (afterToken s at)
   operator-past =
       let i = token-inside s (skip s at) operator-inside in
       (in-table, omega (arith, onward Space s at))

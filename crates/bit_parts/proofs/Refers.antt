@@ -1,21 +1,24 @@
 -- The reader's definition of references is what the rules say: it reads a name or a bit part exactly where one stands.
 -- Assumes nothing.
-use mathlib.Core.Path.{_≡_, refl, subst, ap, _∙_}
+use mathlib.Core.Path.{_≡_, refl, sym, subst, ap, _∙_}
 use mathlib.Core.Bool.{false, _&&_}
-use mathlib.Core.List.{List}
+use mathlib.Core.List.{List, []}
 use Prim.Native.Nat.{ℕ, _+_, _≤_, _<_}
 use lib.Dec.{eqb, leb, ltb}
 use lib.ListN.{length}
 use borrow.Author.Tests.{lt-ltb, ltb-true, le-leb, leb-true, eq-eqb, eqb-true, ne-eqb, eqb-false}
 use Rattle.laws.proofs.Tests.{by-case}
 use Rattle.laws.proofs.Joined.{and-left, and-right}
+use Rattle.characters.specs.Ascii.{ascii}
 use Rattle.characters.specs.Characters.{runEnd}
 use Rattle.characters.specs.Named.{Named}
 use Rattle.characters.specs.declared.Class.the-variants.{Word}
 use Rattle.constants.specs.Constants.{decimalAt}
 use Rattle.constants.specs.declared.Number.{Number}
 use Rattle.constants.specs.declared.Number.the-variants.{Plain, Unread}
-use Rattle.tokens.specs.Tokens.{angleOpen, angleClose, colon, skip, next}
+use Rattle.tokens.specs.Tokens.{skip, next, afterToken, token}
+use Rattle.tokens.proofs.Tokens.{Sign, angle-open, angle-close, colon-sign, token-first, sign-after, sign-token}
+use Rattle.tokens.specs.Signs.{angleOpen, angleClose, colon}
 use Rattle.bit_parts.specs.declared.Span.{Span}
 use Rattle.bit_parts.specs.declared.Span.the-variants.{Bits, Bad}
 use Rattle.bit_parts.specs.declared.Reference.{Reference}
@@ -29,19 +32,33 @@ module _ (s : List ℕ) (at : ℕ) where
   Spanned (Bits a b p) = Spans s at a b p
   Spanned Bad = Unit {0}
 
+  -- a decimal behind a sign
+  behind : (q b : ℕ) → Sign b → next s q ≡ b → decimalAt s (skip s (afterToken s q)) ≡ decimalAt s (skip s (skip s q + 1))
+  behind q b h e = ap (λ (i : ℕ). decimalAt s (skip s i)) (sign-after s q b h e)
+
   module _ (opens : next s at ≡ angleOpen) where
+    opened : token s at ≡ ascii "<"
+    opened = sign-token s at angleOpen angle-open opens
+
     second-said : (a q : ℕ) → decimalAt s (skip s (skip s at + 1)) ≡ Plain a q → next s q ≡ colon → (n : Number) → decimalAt s (skip s (skip s q + 1)) ≡ n
         → Spanned (secondBit s a n)
     unfolding secondBit
     second-said a q e c (Plain b p) h =
-        by-case Spanned (eqb (next s p) angleClose) (λ t. two-bits opens e c h (eqb-true (next s p) angleClose t)) (λ t. tt)
+        by-case Spanned (eqb (next s p) angleClose)
+        (λ t.
+        let x = eqb-true (next s p) angleClose t in
+        subst (Spans s at a b) (sign-after s p angleClose angle-close x)
+        (two-bits opened (behind at angleOpen angle-open opens ∙ e) (sign-token s q colon colon-sign c) (behind q colon colon-sign c ∙ h) (sign-token s p angleClose angle-close x)))
+        (λ t. tt)
     second-said a q e c Unread h = tt
 
     first-said : (n : Number) → decimalAt s (skip s (skip s at + 1)) ≡ n → Spanned (firstBit s n)
     unfolding firstBit
     first-said (Plain a q) e =
         by-case Spanned (eqb (next s q) angleClose)
-        (λ t. one-bit opens e (eqb-true (next s q) angleClose t))
+        (λ t.
+        let x = eqb-true (next s q) angleClose t in
+        subst (Spans s at a a) (sign-after s q angleClose angle-close x) (one-bit opened (behind at angleOpen angle-open opens ∙ e) (sign-token s q angleClose angle-close x)))
         (λ t.
         by-case Spanned (eqb (next s q) colon)
         (λ u. second-said a q e (eqb-true (next s q) colon u) (decimalAt s (skip s (skip s q + 1))) refl)
@@ -49,6 +66,14 @@ module _ (s : List ℕ) (at : ℕ) where
     first-said Unread e = tt
 
   -- and those that stand there are read
+  bits-open : {a b p : ℕ} → Spans s at a b p → next s at ≡ angleOpen
+  bits-open (one-bit o e c) = token-first s at angleOpen [] o
+  bits-open (two-bits o e c h d) = token-first s at angleOpen [] o
+
+  first-is : (a q : ℕ) → next s q ≡ angleClose → firstBit s (Plain a q) ≡ Bits a a (skip s q + 1)
+  unfolding firstBit
+  first-is a q c = rw (eq-eqb (next s q) angleClose c, firstBit)
+
   colon-is : (q : ℕ) → next s q ≡ colon → eqb (next s q) angleClose ≡ false
   colon-is q e = ap (λ (b : ℕ). eqb b angleClose) e
 
@@ -56,15 +81,25 @@ module _ (s : List ℕ) (at : ℕ) where
   unfolding firstBit
   second-is a q c = rw (colon-is q c, eq-eqb (next s q) colon c, firstBit)
 
-  span-read : {a b p : ℕ} → Spans s at a b p → spanAt s (skip s at + 1) ≡ Bits a b p
-  unfolding spanAt firstBit secondBit
-  span-read (one-bit {a = a} {q = q} o e c) = ap (firstBit s) e ∙ rw (eq-eqb (next s q) angleClose c, firstBit)
-  span-read (two-bits {a = a} {b = b} {q = q} {p = p} o e c h d) =
-      ap (firstBit s) e ∙ second-is a q c ∙ ap (secondBit s a) h ∙ rw (eq-eqb (next s p) angleClose d, secondBit)
+  last-is : (a b p : ℕ) → next s p ≡ angleClose → secondBit s a (Plain b p) ≡ Bits a b (skip s p + 1)
+  unfolding secondBit
+  last-is a b p c = rw (eq-eqb (next s p) angleClose c, secondBit)
 
-  spans-open : {a b p : ℕ} → Spans s at a b p → next s at ≡ angleOpen
-  spans-open (one-bit o e c) = o
-  spans-open (two-bits o e c h d) = o
+  span-read : {a b p : ℕ} → Spans s at a b p → spanAt s (skip s at + 1) ≡ Bits a b p
+  unfolding spanAt
+  span-read (one-bit {a = a} {q = q} o e c) =
+      let x = token-first s q angleClose [] c in
+      ap (firstBit s) (sym (behind at angleOpen angle-open (token-first s at angleOpen [] o)) ∙ e)
+      ∙ first-is a q x
+      ∙ ap (λ (i : ℕ). Bits a a i) (sym (sign-after s q angleClose angle-close x))
+  span-read (two-bits {a = a} {b = b} {q = q} {p = p} o e c h d) =
+      let x = token-first s q colon [] c in
+      let y = token-first s p angleClose [] d in
+      ap (firstBit s) (sym (behind at angleOpen angle-open (token-first s at angleOpen [] o)) ∙ e)
+      ∙ second-is a q x
+      ∙ ap (secondBit s a) (sym (behind q colon colon-sign x) ∙ h)
+      ∙ last-is a b p y
+      ∙ ap (λ (i : ℕ). Bits a b i) (sym (sign-after s p angleClose angle-close y))
 
 module _ (rs : List Named) (s : List ℕ) (at : ℕ) where
   abbrev r : ℕ
@@ -99,7 +134,7 @@ module _ (rs : List Named) (s : List ℕ) (at : ℕ) where
       (λ u.
       part-said l (firstBit s (decimalAt s (skip s (skip s end + 1))))
       (first-said s end (eqb-true (next s end) angleOpen u) (decimalAt s (skip s (skip s end + 1))) refl))
-      (λ u. to-register l (eqb-false (next s end) angleOpen u)))
+      (λ u. to-register l (λ o. eqb-false (next s end) angleOpen u (token-first s end angleOpen [] o))))
       (λ t. tt)
 
   pub whole-referred : (a b p : ℕ) → referenceAt rs s at ≡ Whole a b p → Refers rs s at (Whole a b p)
@@ -116,15 +151,15 @@ module _ (rs : List Named) (s : List ℕ) (at : ℕ) where
   unfolding registerAt
   bare n = rw (ne-eqb (next s end) angleOpen n, registerAt)
 
-  opened : next s end ≡ angleOpen → registerAt s r w end ≡ partOf r w (spanAt s (skip s end + 1))
+  parted : next s end ≡ angleOpen → registerAt s r w end ≡ partOf r w (spanAt s (skip s end + 1))
   unfolding registerAt
-  opened o = rw (eq-eqb (next s end) angleOpen o, registerAt)
+  parted o = rw (eq-eqb (next s end) angleOpen o, registerAt)
 
   ordered : (a b p : ℕ) → a ≤ b → b < w → partOf r w (Bits a b p) ≡ Part r w a b p
   unfolding partOf
   ordered a b p i l = rw (le-leb a b i, lt-ltb b w l, partOf)
 
   pub refers-read : {x : Reference} → Refers rs s at x → referenceAt rs s at ≡ x
-  refers-read (to-register l n) = listed l ∙ bare n
+  refers-read (to-register l n) = listed l ∙ bare (λ o. n (sign-token s end angleOpen angle-open o))
   refers-read (to-bits {a = a} {b = b} {p = p} l h i j) =
-      listed l ∙ opened (spans-open s end h) ∙ ap (partOf r w) (span-read s end h) ∙ ordered a b p i j
+      listed l ∙ parted (bits-open s end h) ∙ ap (partOf r w) (span-read s end h) ∙ ordered a b p i j

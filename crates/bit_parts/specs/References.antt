@@ -12,7 +12,8 @@ use Rattle.constants.specs.Constants.{decimalAt}
 use Rattle.constants.specs.declared.Number.{Number}
 use Rattle.constants.specs.declared.Number.the-variants.{Plain, Unread}
 use Rattle.characters.specs.Named.{Named, find}
-use Rattle.tokens.specs.Tokens.{angleOpen, angleClose, colon, skip, next, slice}
+use Rattle.tokens.specs.Tokens.{skip, next, slice}
+use Rattle.tokens.specs.Signs.{angleOpen, angleClose, colon}
 pub use Rattle.bit_parts.specs.Refers.{widthIn}
 use Rattle.bit_parts.specs.declared.Span.{Span}
 use Rattle.bit_parts.specs.declared.Span.the-variants.{Bits, Bad}

@@ -20,7 +20,8 @@ use Rattle.code.specs.declared.Part.the-variants.{Found, Fault}
 use Rattle.operators.specs.Operators.{table, rowOf, entryIn, widthBy}
 use Rattle.operators.proofs.Rows.{row-is}
 use Rattle.code.specs.Tree.{Expr, memory, complemented, rotated, binary, width, pieces, largestCount}
-use Rattle.tokens.specs.Tokens.{squareClose, skip, next}
+use Rattle.tokens.specs.Tokens.{skip, next}
+use Rattle.tokens.specs.Signs.{squareClose}
 use Rattle.code.specs.Readings.{Reading, read, outside, limited, closed, notOf, rotationOf, joined}
 use Rattle.code.specs.Code.{codeOf}
 use Rattle.code.specs.Met.{Held, Meets, Made, Behind, Combined, UnderNot}

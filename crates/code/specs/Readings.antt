@@ -12,7 +12,8 @@ use Rattle.constants.specs.declared.Constant.the-variants.{Found, Missing}
 use Rattle.bit_parts.specs.declared.Reference.{Reference}
 use Rattle.bit_parts.specs.declared.Reference.the-variants.{Whole, Part, Unknown}
 use Rattle.operators.specs.Operators.{entryIn}
-use Rattle.tokens.specs.Tokens.{squareClose, skip, next}
+use Rattle.tokens.specs.Tokens.{skip, next}
+use Rattle.tokens.specs.Signs.{squareClose}
 use Rattle.code.specs.Tree.{Expr, register, bitPart, constant, memory, complemented, rotated, binary, width, largestCount}
 pub use Rattle.code.specs.Tree.{Reading, read, outside, DestinationReading, leads, astray}
 

@@ -1,9 +1,9 @@
 // Constants, registers and bit parts: what an expression has at its ends. Each puts its word into the table.
-use bit_parts::Reference;
 use crate::CODE_PLACES;
 use crate::Cursor;
 use crate::Part;
 use crate::WIDEST;
+use bit_parts::Reference;
 use constants::Constant;
 use names::Dictionary;
 ghost use mathlib.Core.Path.{_≡_};

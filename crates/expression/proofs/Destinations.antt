@@ -14,7 +14,8 @@ use Rattle.characters.specs.declared.Class.the-variants as class
 use Rattle.bit_parts.specs.declared.Reference.{Reference}
 use Rattle.bit_parts.specs.declared.Reference.the-variants.{Whole, Part}
 use Rattle.operators.specs.Operators.{weakest}
-use Rattle.tokens.specs.Tokens.{squareOpen, squareClose, memoryToken, skip, next, slice}
+use Rattle.tokens.specs.Tokens.{skip, next, slice}
+use Rattle.tokens.specs.Signs.{squareOpen, squareClose, memoryToken}
 use Rattle.tokens.proofs.Tokens.{at-mark, off-mark}
 use Rattle.bit_parts.specs.References.{referenceAt}
 use Rattle.code.specs.declared.Cursor.{Cursor}

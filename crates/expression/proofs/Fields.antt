@@ -3,7 +3,7 @@
 -- Assumes nothing.
 use mathlib.Core.Path.{_≡_, refl, sym, ap, subst, _∙_}
 use mathlib.Core.Bool.{Bool, true, false, not, _&&_}
-use mathlib.Core.List.{List}
+use mathlib.Core.List.{List, []}
 use Prim.Native.Nat.{ℕ, _+_, _-_}
 use native.Mathlib.Omega.{arith}
 use lib.Dec.{eqb, leb, ltb}
@@ -11,27 +11,30 @@ use lib.ListN.{length, getD}
 use borrow.Author.Tests.{eq-eqb, eqb-true, le-leb, leb-true, ltb-true, ltb-false}
 use Rattle.laws.proofs.Tests.{by-test, by-case}
 use Rattle.laws.proofs.Joined.{and-left, and-right}
-use Rattle.characters.specs.Ascii.{byteOf}
+use Rattle.characters.specs.Ascii.{ascii, byteOf}
 use Rattle.characters.specs.Characters.{isWord, runEnd, same}
 use Rattle.characters.specs.Named.{Named}
 use Rattle.characters.specs.declared.Class.the-variants as class
 use Rattle.characters.proofs.Runs.{at-end, stops}
 use Rattle.characters.proofs.Strings.{equal}
 use Rattle.operators.specs.Operators.{weakest}
-use Rattle.tokens.specs.Tokens.{squareOpen, squareClose, memoryToken, skip, next, slice}
+use Rattle.tokens.specs.Tokens.{skip, next, slice, afterToken, token}
+use Rattle.tokens.proofs.Tokens.{square-open, square-close, word, wordEnd, after-word, token-first, token-after, sign-after, sign-token}
+use Rattle.tokens.specs.Signs.{squareOpen, squareClose, memoryToken}
 use Rattle.bit_parts.specs.References.{referenceAt}
+use Rattle.bit_parts.proofs.Onward.{word-of-letter}
 use Rattle.bit_parts.proofs.Refers.{whole-referred, part-referred, refers-read}
 use Rattle.bit_parts.specs.declared.Reference.{Reference}
 use Rattle.bit_parts.specs.declared.Reference.the-variants.{Whole, Part, Unknown}
 use Rattle.code.specs.Tree.{Expr, pieces, mostPieces, Destination}
 use Rattle.code.specs.Readings.{Reading, read, outside, DestinationReading, leads, astray}
-use Rattle.grammar.specs.Says.{Says, word, wordEnd}
+use Rattle.grammar.specs.Says.{Says}
 use Rattle.grammar.specs.Grammar.{level, fuel}
 use Rattle.grammar.specs.Reaches.{Reaches, nothing}
 use Rattle.grammar.proofs.Said.{read-said, other-word, memory-itself}
 use Rattle.grammar.proofs.Complete.{says-read, one-tree, end-weak}
-use Rattle.grammar.proofs.Firsts.{is-word, is-no-word, square-weak}
-use Rattle.grammar.proofs.Reaches.{onward-to, word-to, square-to, shut-to, ReferenceTo, reference-to, says-reaches}
+use Rattle.grammar.proofs.Firsts.{is-word, is-no-word, square-weak, memory-letter, memory-word, word-memory}
+use Rattle.grammar.proofs.Reaches.{onward-to, letter-to, sign-to, ReferenceTo, reference-to, says-reaches}
 use Rattle.expression.specs.Fields.{trimmed, IsExpression, IsDestination, names-register, names-part, names-word}
 use Rattle.expression.specs.Expression.{whole, expression, ofName, ofAddress, memoryAt, destination}
 use Rattle.expression.proofs.WholeFields.{trims, all-of-it}
@@ -61,12 +64,14 @@ module _ (rs : List Named) (s : List ℕ) where
   whole-said e (read t p) h =
       by-case Expression (eqb p (length s) && leb (pieces t) mostPieces)
       (λ u.
-      let ends : p ≡ length s = eqb-true p (length s) (and-left (eqb p (length s)) (leb (pieces t) mostPieces) u) in
-      (record {
-        trim = e;
-        says = subst (λ (q : ℕ). Says rs s 0 weakest 0 q t) ends (read-said rs s (fuel s) 0 weakest 0 p t h);
-        few = leb-true (pieces t) mostPieces (and-right (eqb p (length s)) (leb (pieces t) mostPieces) u);
-      }, ends))
+      let ends : p ≡ length s = eqb-true p (length s) (and-left (eqb p (length s)) (leb (pieces t) mostPieces) u) in (
+        record {
+          trim = e;
+          says = subst (λ (q : ℕ). Says rs s 0 weakest 0 q t) ends (read-said rs s (fuel s) 0 weakest 0 p t h);
+          few = leb-true (pieces t) mostPieces (and-right (eqb p (length s)) (leb (pieces t) mostPieces) u);
+        },
+        ends,
+      ))
       (λ u. tt)
   whole-said e outside h = tt
 
@@ -121,7 +126,7 @@ module _ (rs : List Named) (s : List ℕ) where
   Leads (leads d) = IsDestination rs s d
   Leads astray = Unit {0}
 
-  name-said : trimmed s ≡ true → (word s 0 ≡ memoryToken → ⊥) → (x : Reference) → referenceAt rs s 0 ≡ x → Leads (ofName s x)
+  name-said : trimmed s ≡ true → (token s 0 ≡ ascii "M" → ⊥) → (x : Reference) → referenceAt rs s 0 ≡ x → Leads (ofName s x)
   unfolding ofName
   name-said e n (Whole r w p) h =
       by-case Leads (eqb p (length s)) (λ t. names-register e n (whole-referred rs s 0 r w (length s) (h ∙ ap (λ (q : ℕ). Whole r w q) (eqb-true p (length s) t)))) (λ t. tt)
@@ -132,7 +137,14 @@ module _ (rs : List Named) (s : List ℕ) where
   abbrev inner : ℕ
   inner = skip s (wordEnd s 0) + 1
 
-  address-said : trimmed s ≡ true → word s 0 ≡ memoryToken → next s (wordEnd s 0) ≡ squareOpen → (x : Reading) → level (fuel s) rs s 0 weakest inner ≡ x
+  -- behind an M and its bracket
+  after-memory : token s 0 ≡ ascii "M" → afterToken s 0 ≡ wordEnd s 0
+  after-memory m = after-word s 0 (word-of-letter (next s 0) (memory-letter s 0 m))
+
+  inner-is : token s 0 ≡ ascii "M" → token s (afterToken s 0) ≡ ascii "[" → afterToken s (afterToken s 0) ≡ inner
+  inner-is m o = token-after s (afterToken s 0) squareOpen square-open o ∙ ap (λ (i : ℕ). skip s i + 1) (after-memory m)
+
+  address-said : trimmed s ≡ true → token s 0 ≡ ascii "M" → token s (afterToken s 0) ≡ ascii "[" → (x : Reading) → level (fuel s) rs s 0 weakest inner ≡ x
       → Leads (ofAddress s x)
   unfolding ofAddress
   address-said e m o (read t q) h =
@@ -142,16 +154,18 @@ module _ (rs : List Named) (s : List ℕ) where
       by-case Leads (shut && last && few)
       (λ u.
       let v : shut && last ≡ true = and-left (shut && last) few u in
-      names-word e m o (read-said rs s (fuel s) 0 weakest inner q t h) (eqb-true (next s q) squareClose (and-left shut last v))
-      (eqb-true (skip s q + 1) (length s) (and-right shut last v)) (leb-true (pieces t) mostPieces (and-right (shut && last) few u)))
+      let c = eqb-true (next s q) squareClose (and-left shut last v) in
+      names-word e m o (subst (λ (i : ℕ). Says rs s 0 weakest i q t) (sym (inner-is m o)) (read-said rs s (fuel s) 0 weakest inner q t h))
+      (sign-token s q squareClose square-close c) (sign-after s q squareClose square-close c ∙ eqb-true (skip s q + 1) (length s) (and-right shut last v))
+      (leb-true (pieces t) mostPieces (and-right (shut && last) few u)))
       (λ u. tt)
   address-said e m o outside h = tt
 
-  memory-said : trimmed s ≡ true → word s 0 ≡ memoryToken → Leads (memoryAt rs s (wordEnd s 0))
+  memory-said : trimmed s ≡ true → token s 0 ≡ ascii "M" → Leads (memoryAt rs s (wordEnd s 0))
   unfolding memoryAt
   memory-said e m =
       by-case Leads (eqb (next s (wordEnd s 0)) squareOpen)
-      (λ t. address-said e m (eqb-true (next s (wordEnd s 0)) squareOpen t) (level (fuel s) rs s 0 weakest inner) refl)
+      (λ t. address-said e m (sign-token s (afterToken s 0) squareOpen square-open (ap (next s) (after-memory m) ∙ eqb-true (next s (wordEnd s 0)) squareOpen t)) (level (fuel s) rs s 0 weakest inner) refl)
       (λ t. tt)
 
   -- the word at the start, as the definition has it
@@ -170,17 +184,17 @@ module _ (rs : List Named) (s : List ℕ) where
       by-case Leads (trimmed s)
       (λ e.
       by-case Leads (same first memoryToken)
-      (λ t. subst (λ (i : ℕ). Leads (memoryAt rs s i)) (end-is e) (memory-said e (word-is e ∙ equal first memoryToken t)))
-      (λ t. name-said e (λ m. other-word first memoryToken memory-itself t (sym (word-is e) ∙ m)) (referenceAt rs s 0) refl))
+      (λ t. subst (λ (i : ℕ). Leads (memoryAt rs s i)) (end-is e) (memory-said e (word-memory s 0 (word-is e ∙ equal first memoryToken t))))
+      (λ t. name-said e (λ m. other-word first memoryToken memory-itself t (sym (word-is e) ∙ memory-word s 0 m)) (referenceAt rs s 0) refl))
       (λ e. tt)
 
-  by-name : trimmed s ≡ true → (word s 0 ≡ memoryToken → ⊥) → destination rs s ≡ ofName s (referenceAt rs s 0)
+  by-name : trimmed s ≡ true → (token s 0 ≡ ascii "M" → ⊥) → destination rs s ≡ ofName s (referenceAt rs s 0)
   unfolding destination
-  by-name e n = rw (e, is-no-word first memoryToken (λ m. n (word-is e ∙ m)), destination)
+  by-name e n = rw (e, is-no-word first memoryToken (λ m. n (word-memory s 0 (word-is e ∙ m))), destination)
 
-  by-memory : trimmed s ≡ true → word s 0 ≡ memoryToken → destination rs s ≡ memoryAt rs s (runEnd class.Word s 0)
+  by-memory : trimmed s ≡ true → token s 0 ≡ ascii "M" → destination rs s ≡ memoryAt rs s (runEnd class.Word s 0)
   unfolding destination
-  by-memory e m = rw (e, is-word first memoryToken memory-itself (sym (word-is e) ∙ m), destination)
+  by-memory e m = rw (e, is-word first memoryToken memory-itself (sym (word-is e) ∙ memory-word s 0 m), destination)
 
   -- a field's destination is read, and no other
   pub destination-said : (d : Destination) → destination rs s ≡ leads d → IsDestination rs s d
@@ -190,11 +204,12 @@ module _ (rs : List Named) (s : List ℕ) where
   destination-read d (names-register {r = r} {w = w} e n h) = by-name e n ∙ ap (ofName s) (refers-read rs s 0 h) ∙ to-register s r w (length s) refl
   destination-read d (names-part {r = r} {w = w} {a = a} {b = b} e n h) = by-name e n ∙ ap (ofName s) (refers-read rs s 0 h) ∙ to-part s r w (length s) a b refl
   destination-read d (names-word {q = q} {t = t} e m o h c l f) =
+      let x : next s (wordEnd s 0) ≡ squareOpen = ap (next s) (sym (after-memory m)) ∙ token-first s (afterToken s 0) squareOpen [] o in
       by-memory e m
       ∙ ap (memoryAt rs s) (sym (end-is e))
-      ∙ opens rs s (wordEnd s 0) (skip s (wordEnd s 0)) (next s (wordEnd s 0)) refl refl o
-      ∙ ap (ofAddress s) (says-read rs s h (square-weak s q c))
-      ∙ is-address s t q (both (both (eq-eqb (next s q) squareClose c) (eq-eqb (skip s q + 1) (length s) l)) (le-leb (pieces t) mostPieces f))
+      ∙ opens rs s (wordEnd s 0) (skip s (wordEnd s 0)) (next s (wordEnd s 0)) refl refl x
+      ∙ ap (ofAddress s) (ap (level (fuel s) rs s 0 weakest) (sym (inner-is m o)) ∙ says-read rs s h (square-weak s q c))
+      ∙ is-address s t q (both (both (eq-eqb (next s q) squareClose (token-first s q squareClose [] c)) (eq-eqb (skip s q + 1) (length s) (sym (token-after s q squareClose square-close c) ∙ l))) (le-leb (pieces t) mostPieces f))
 
   -- what leads nowhere is no destination
   pub no-destination : destination rs s ≡ astray → (d : Destination) → IsDestination rs s d → ⊥
@@ -221,4 +236,5 @@ module _ (rs : List Named) (s : List ℕ) where
   destination-tokens d i (names-part e n h) = subst (ReferenceTo s 0) (ap (referenceAt rs s) (at-start e) ∙ refers-read rs s 0 h) (reference-to s 0 rs 0 nothing (begins e i))
   destination-tokens d i (names-word {q = q} e m o h c l f) =
       subst (Reaches s 0) l
-      (shut-to s 0 q (onward-to s (square-to s 0 (wordEnd s 0) (word-to s 0 0 nothing (begins e i)) o) (says-reaches rs s h (omega arith))) c)
+      (sign-to s 0 q squareClose square-close
+      (onward-to s (sign-to s 0 (afterToken s 0) squareOpen square-open (letter-to s 0 0 nothing (memory-letter s 0 m)) o) (says-reaches rs s h (omega arith))) c)

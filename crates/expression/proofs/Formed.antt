@@ -24,7 +24,8 @@ use Rattle.operators.specs.declared.Entry.{Entry}
 use Rattle.bit_parts.specs.declared.Reference.{Reference}
 use Rattle.bit_parts.specs.declared.Reference.the-variants.{Whole, Part, Unknown}
 use Rattle.operators.specs.Operators.{table, noEntry, rowOf, entryIn, weakest, strongest, rotations}
-use Rattle.tokens.specs.Tokens.{roundOpen, roundClose, squareOpen, squareClose, notToken, memoryToken, skip, next, slice, operatorAt, operatorEnd}
+use Rattle.tokens.specs.Tokens.{skip, next, slice, operatorAt, afterToken}
+use Rattle.tokens.specs.Signs.{roundOpen, roundClose, squareOpen, squareClose, notToken, memoryToken}
 use Rattle.bit_parts.specs.References.{referenceAt}
 use Rattle.bit_parts.proofs.Onward.{whole-known, bits-known}
 use Rattle.code.specs.Tree.{Expr, register, bitPart, constant, binary, width, pieces, largestCount, mostPieces, toPart}
@@ -122,13 +123,13 @@ module _ (rs : List Named) where
       operation-formed (suc f) d k l p n e h =
           by-case Good (eqb k rotations)
           (λ t.
-          rotation-formed (operatorAt s p) l (decimalAt s (skip s (operatorEnd s p)))
+          rotation-formed (operatorAt s p) l (decimalAt s (skip s (afterToken s p)))
           (strength-is (operatorAt s p) rotations (omega arith) ∙ ap (λ (i : ℕ). eqb i rotations) e ∙ t) h)
           (λ t.
-          joined-formed (operatorAt s p) l (level f rs s d (k + 1) (operatorEnd s p))
+          joined-formed (operatorAt s p) l (level f rs s d (k + 1) (afterToken s p))
           (strength-is (operatorAt s p) strongest (omega arith) ∙ ap (λ (i : ℕ). eqb i strongest) e ∙ n)
           (strength-is (operatorAt s p) rotations (omega arith) ∙ ap (λ (i : ℕ). eqb i rotations) e ∙ t)
-          h (level-formed f d (k + 1) (operatorEnd s p)))
+          h (level-formed f d (k + 1) (afterToken s p)))
 
       operand-formed : (f d at : ℕ) → Good (operand f rs s d at)
       operand-formed zero d at = tt

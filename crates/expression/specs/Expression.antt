@@ -12,7 +12,8 @@ use Rattle.characters.specs.declared.Class.the-variants.{Word}
 use Rattle.bit_parts.specs.declared.Reference.{Reference}
 use Rattle.bit_parts.specs.declared.Reference.the-variants.{Whole, Part, Unknown}
 use Rattle.operators.specs.Operators.{weakest}
-use Rattle.tokens.specs.Tokens.{squareOpen, squareClose, memoryToken, skip, next, slice}
+use Rattle.tokens.specs.Tokens.{skip, next, slice}
+use Rattle.tokens.specs.Signs.{squareOpen, squareClose, memoryToken}
 use Rattle.bit_parts.specs.References.{referenceAt}
 use Rattle.code.specs.Tree.{pieces, mostPieces, toRegister, toPart, toMemory}
 use Rattle.code.specs.Readings.{Reading, read, outside, DestinationReading, leads, astray}

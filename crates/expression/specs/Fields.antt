@@ -4,17 +4,17 @@
 use mathlib.Core.Path.{_≡_}
 use mathlib.Core.Bool.{Bool, true, not, _&&_}
 use mathlib.Core.List.{List}
-use Prim.Native.Nat.{ℕ, _+_, _-_, _≤_}
+use Prim.Native.Nat.{ℕ, _-_, _≤_}
 use lib.Dec.{eqb}
 use lib.ListN.{length, getD}
-use Rattle.characters.specs.Ascii.{byteOf}
+use Rattle.characters.specs.Ascii.{ascii, byteOf}
 use Rattle.characters.specs.Named.{Named}
 use Rattle.operators.specs.Operators.{weakest}
-use Rattle.tokens.specs.Tokens.{squareOpen, squareClose, memoryToken, skip, next}
+use Rattle.tokens.specs.Tokens.{afterToken, token}
 use Rattle.bit_parts.specs.Refers.{Refers}
 use Rattle.bit_parts.specs.declared.Reference.the-variants.{Whole, Part}
 use Rattle.code.specs.Tree.{Expr, pieces, mostPieces, Destination, toRegister, toPart, toMemory}
-use Rattle.grammar.specs.Says.{Says, word, wordEnd}
+use Rattle.grammar.specs.Says.{Says}
 
 -- "not at its ends"
 abbrev pub trimmed : List ℕ → Bool
@@ -28,10 +28,10 @@ pub record IsExpression (rs : List Named) (s : List ℕ) (t : Expr) : Type 0 whe
 
 -- "A destination is a name, a bit part `name<a>` or `name<a:b>` .., or `M[expression]`"
 pub data IsDestination (rs : List Named) (s : List ℕ) : Destination → Type 0 where
-  names-register : {r w : ℕ} → trimmed s ≡ true → (word s 0 ≡ memoryToken → ⊥) → Refers rs s 0 (Whole r w (length s)) → IsDestination rs s (toRegister r w)
-  names-part : {r w a b : ℕ} → trimmed s ≡ true → (word s 0 ≡ memoryToken → ⊥) → Refers rs s 0 (Part r w a b (length s))
+  names-register : {r w : ℕ} → trimmed s ≡ true → (token s 0 ≡ ascii "M" → ⊥) → Refers rs s 0 (Whole r w (length s)) → IsDestination rs s (toRegister r w)
+  names-part : {r w a b : ℕ} → trimmed s ≡ true → (token s 0 ≡ ascii "M" → ⊥) → Refers rs s 0 (Part r w a b (length s))
       → IsDestination rs s (toPart r w a b)
   -- "a destination's own bracket isn't counted"; "a memory destination's address being one of its own"
-  names-word : {q : ℕ} {t : Expr} → trimmed s ≡ true → word s 0 ≡ memoryToken → next s (wordEnd s 0) ≡ squareOpen
-      → Says rs s 0 weakest (skip s (wordEnd s 0) + 1) q t → next s q ≡ squareClose → skip s q + 1 ≡ length s → pieces t ≤ mostPieces
+  names-word : {q : ℕ} {t : Expr} → trimmed s ≡ true → token s 0 ≡ ascii "M" → token s (afterToken s 0) ≡ ascii "["
+      → Says rs s 0 weakest (afterToken s (afterToken s 0)) q t → token s q ≡ ascii "]" → afterToken s q ≡ length s → pieces t ≤ mostPieces
       → IsDestination rs s (toMemory t)

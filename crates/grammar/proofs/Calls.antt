@@ -18,7 +18,8 @@ use Rattle.code.specs.declared.Part.the-variants.{Found, Fault}
 use Rattle.operators.specs.declared.Entry.{Entry}
 use Rattle.operators.specs.Operators.{entryIn, weakest, strongest, rotations}
 use Rattle.code.specs.Tree.{Expr}
-use Rattle.tokens.specs.Tokens.{roundOpen, roundClose, squareOpen, squareClose, notToken, memoryToken, skip, next, slice, operatorAt, operatorEnd}
+use Rattle.tokens.specs.Tokens.{skip, next, slice, operatorAt, afterToken}
+use Rattle.tokens.specs.Signs.{roundOpen, roundClose, squareOpen, squareClose, notToken, memoryToken}
 use Rattle.tokens.proofs.Tokens.{at-mark, off-mark}
 use Rattle.bit_parts.specs.References.{referenceAt}
 use Rattle.code.specs.Readings.{Reading, read, outside, ofConstant, ofReference, notOf, closed, rotationOf, joined}
@@ -107,7 +108,7 @@ module _ (rs : List Named) (s : List ℕ) (d : ℕ) where
       unfolding more
       more-goes-on h f = rw (eq-eqb (entryIn (operatorAt s p) .strength) k (sym strength-is ∙ h), more)
 
-    module _ (end : ℕ) (ends : end ≡ operatorEnd s p) where
+    module _ (end : ℕ) (ends : end ≡ afterToken s p) where
       pub operation-rotates : k ≡ rotations → (f : ℕ) → operation (suc f) rs s d k l p ≡ rotationOf row l (decimalAt s (skip s end))
       unfolding operation
       operation-rotates h f = rw (stands, ends, eq-eqb k rotations h, operation)

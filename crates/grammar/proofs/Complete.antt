@@ -2,7 +2,7 @@
 -- Assumes nothing.
 use mathlib.Core.Path.{_≡_, refl, sym, ap, _∙_}
 use mathlib.Core.Bool.{false}
-use mathlib.Core.List.{List}
+use mathlib.Core.List.{List, []}
 use Prim.Native.Nat.{ℕ, zero, suc, _+_, _-_, _≤_, _<_}
 use native.Mathlib.Omega.{arith}
 use lib.Dec.{eqb}
@@ -18,18 +18,20 @@ use Rattle.characters.proofs.Runs.{onward}
 use Rattle.constants.specs.declared.Number.the-variants.{Plain}
 use Rattle.constants.specs.declared.Constant.the-variants.{Found}
 use Rattle.operators.specs.Operators.{entryIn, weakest, strongest, rotations}
-use Rattle.tokens.specs.Tokens.{roundClose, squareClose, notToken, memoryToken, skip, next, operatorAt, operatorEnd}
+use Rattle.tokens.specs.Tokens.{skip, next, afterToken, operatorAt}
+use Rattle.tokens.proofs.Tokens.{round-open, round-close, square-open, square-close, word, wordEnd, after-word, token-first, token-after}
+use Rattle.tokens.specs.Signs.{roundOpen, roundClose, squareOpen, squareClose, notToken, memoryToken}
 use Rattle.bit_parts.specs.References.{referenceAt}
 use Rattle.bit_parts.specs.declared.Reference.the-variants.{Whole, Part}
 use Rattle.bit_parts.proofs.Refers.{refers-read}
 use Rattle.bit_parts.proofs.Onward.{Past, word-of-letter, letters-past, decimal-past, constant-past, reference-past, operator-inside, operator-past}
 use Rattle.code.specs.Tree.{Expr, register, bitPart, constant, memory, complemented, rotated, binary, width, largestCount}
 use Rattle.code.specs.Readings.{Reading, read, outside, limited, ofReference, ofConstant, notOf, closed, inside, rotationOf, joined}
-use Rattle.grammar.specs.Says.{wordEnd, word, operator, strength, Name, Says, stronger, operates, rotates, complements, encloses, fetches, is-register, is-part, is-constant}
+use Rattle.grammar.specs.Says.{operator, strength, Name, Says, stronger, operates, rotates, complements, encloses, fetches, is-register, is-part, is-constant}
 use Rattle.grammar.specs.Grammar.{level, more, operation, operand, worded, negated, enclosed, fuel}
 use Rattle.grammar.specs.Met.{calls}
 use Rattle.grammar.proofs.Calls.{level-operand, level-more, more-stops, more-goes-on, operation-rotates, operation-joins, operand-encloses, operand-worded, operand-constant, worded-not, worded-memory, worded-name, negated-in, enclosed-in}
-use Rattle.grammar.proofs.Firsts.{round-weak, square-weak, not-letter, memory-letter, no-open, constant-first, is-word, is-no-word, memory-no-not}
+use Rattle.grammar.proofs.Firsts.{round-weak, square-weak, not-letter, memory-letter, not-word, memory-word, word-not, word-memory, no-open, constant-first, is-word, is-no-word, memory-no-not}
 use Rattle.grammar.proofs.Said.{not-itself, memory-itself}
 
 -- one call more
@@ -97,14 +99,29 @@ module _ (rs : List Named) (s : List ℕ) where
   said-past (rotates {q = q} h e g l) o =
       let x = said-past h o in
       let y = operator-past s q rotations e o .1 in
-      let z = decimal-past s (skip s (operatorEnd s q)) g in
-      omega (arith, x, y, z, onward class.Space s (operatorEnd s q))
+      let z = decimal-past s (skip s (afterToken s q)) g in
+      omega (arith, x, y, z, onward class.Space s (afterToken s q))
   said-past (complements {at = at} e l h) o =
-      omega (arith, onward class.Space s at, letters-past s (skip s at) (wordEnd s at) (not-letter s at e) refl, said-past h o)
+      let i = not-letter s at e in
+      omega (arith, after-word s at (word-of-letter (next s at) i), onward class.Space s at, letters-past s (skip s at) (wordEnd s at) i refl, said-past h o)
   said-past (encloses {at = at} {q = q} e l h c) o =
-      omega (arith, onward class.Space s at, onward class.Space s q, said-past h (omega arith), present s (skip s q) roundClose c (omega arith))
+      let c′ = token-first s q roundClose [] c in
+      omega (arith, token-after s at roundOpen round-open e, token-after s q roundClose round-close c, onward class.Space s at, onward class.Space s q, said-past h (omega arith), present s (skip s q) roundClose c′ (omega arith))
   said-past (fetches {at = at} {q = q} w e l h c) o =
-      omega (arith, onward class.Space s at, letters-past s (skip s at) (wordEnd s at) (memory-letter s at w) refl, onward class.Space s (wordEnd s at), onward class.Space s q, said-past h (omega arith), present s (skip s q) squareClose c (omega arith))
+      let i = memory-letter s at w in
+      let c′ = token-first s q squareClose [] c in
+      omega (
+        arith,
+        after-word s at (word-of-letter (next s at) i),
+        token-after s (afterToken s at) squareOpen square-open e,
+        token-after s q squareClose square-close c,
+        onward class.Space s at,
+        letters-past s (skip s at) (wordEnd s at) i refl,
+        onward class.Space s (afterToken s at),
+        onward class.Space s q,
+        said-past h (omega arith),
+        present s (skip s q) squareClose c′ (omega arith),
+      )
   said-past (is-register {at = at} n g w) o =
       omega (arith, onward class.Space s at, reference-past rs s (skip s at) (word-of-letter (next s at) (n .letter)) (refers-read rs s (skip s at) g))
   said-past (is-part {at = at} n g w) o =
@@ -159,7 +176,7 @@ module _ (rs : List Named) (s : List ℕ) where
       (λ n j. operand-worded rs s d at (skip s at) (next s at) refl refl (no-open (next s at) (i .letter)) (i .letter) n
       ∙ pred (λ (n : ℕ). worded n rs s d (skip s at) ≡ read t p) (calls s at 0 - 1)
       (λ n j. worded-name rs s d (skip s at) (wordEnd s at) (word s at) refl refl
-      (is-no-word (word s at) notToken (i .no-not)) (is-no-word (word s at) memoryToken (i .no-memory)) n ∙ g) n (omega (arith, h))))
+      (is-no-word (word s at) notToken (λ e. i .no-not (word-not s at e))) (is-no-word (word s at) memoryToken (λ e. i .no-memory (word-memory s at e))) n ∙ g) n (omega (arith, h))))
 
   all-read : {d k at p : ℕ} {t : Expr} → Says rs s d k at p t → 1 ≤ k → Reached d k at p t
   all-read (stronger {d = d} {k = k} {at = at} {p = p} {t = t} h) o =
@@ -183,13 +200,13 @@ module _ (rs : List Named) (s : List ℕ) where
       (λ i j. more-goes-on rs s d k l q row refl (entryIn row) refl e i
       ∙ ap (more i rs s d k)
       (pred (λ (c : ℕ). operation c rs s d k l q ≡ read t p) (calls s q 7)
-      (λ c a. operation-joins rs s d k l q row refl (operatorEnd s q) refl n c ∙ ap (joined row l) (jh .exactly (omega arith) c (omega arith)) ∙ joined-is s row l r p w) i (omega arith))
+      (λ c a. operation-joins rs s d k l q row refl (afterToken s q) refl n c ∙ ap (joined row l) (jh .exactly (omega arith) c (omega arith)) ∙ joined-is s row l r p w) i (omega arith))
       ∙ m i (omega arith)) a (omega arith)))
   all-read (rotates {d = d} {at = at} {q = q} {n = n} {p = p} {l = l} h e g few) o =
       let ih = all-read h o in
       let y = operator-past s q rotations e o .1 in
-      let z = decimal-past s (skip s (operatorEnd s q)) g in
-      let v = onward class.Space s (operatorEnd s q) in
+      let z = decimal-past s (skip s (afterToken s q)) g in
+      let v = onward class.Space s (afterToken s q) in
       let row = operatorAt s q in
       let t = rotated (entryIn row .operator) l n in
       reached (λ le x m.
@@ -198,7 +215,7 @@ module _ (rs : List Named) (s : List ℕ) where
       (λ i j. more-goes-on rs s d rotations l q row refl (entryIn row) refl e i
       ∙ ap (more i rs s d rotations)
       (pred (λ (c : ℕ). operation c rs s d rotations l q ≡ read t p) (calls s q 7)
-      (λ c a. operation-rotates rs s d rotations l q row refl (operatorEnd s q) refl refl c ∙ ap (rotationOf row l) g ∙ rotation-is s row l n p few) i (omega arith))
+      (λ c a. operation-rotates rs s d rotations l q row refl (afterToken s q) refl refl c ∙ ap (rotationOf row l) g ∙ rotation-is s row l n p few) i (omega arith))
       ∙ m i (omega arith)) a (omega arith)))
   all-read (complements {d = d} {at = at} {p = p} {t = t} e b h) o =
       let ih = all-read h o in
@@ -206,26 +223,33 @@ module _ (rs : List Named) (s : List ℕ) where
       let y = letters-past s (skip s at) (wordEnd s at) i refl in
       let v = onward class.Space s at in
       let z = said-past h o in
-      at-strongest (omega (arith, y, v, z)) (z .1)
+      let x = after-word s at (word-of-letter (next s at) i) in
+      at-strongest (omega (arith, x, y, v, z)) (z .1)
       (λ l. pred (λ (n : ℕ). operand n rs s d at ≡ read (complemented t) p) (calls s at 0)
       (λ n j. operand-worded rs s d at (skip s at) (next s at) refl refl (no-open (next s at) i) i n
       ∙ pred (λ (n : ℕ). worded n rs s d (skip s at) ≡ read (complemented t) p) (calls s at 0 - 1)
-      (λ n j. worded-not rs s d (skip s at) (wordEnd s at) (word s at) refl refl (is-word (word s at) notToken not-itself e) n
+      (λ n j. worded-not rs s d (skip s at) (wordEnd s at) (word s at) refl refl (is-word (word s at) notToken not-itself (not-word s at e)) n
       ∙ pred (λ (n : ℕ). negated n rs s d (wordEnd s at) ≡ read (complemented t) p) (calls s at 0 - 2)
-      (λ n j. negated-in rs s d (wordEnd s at) b n ∙ ap notOf (ih .exactly l n (omega arith)) ∙ not-is s t p) n (omega arith))
+      (λ n j. negated-in rs s d (wordEnd s at) b n ∙ ap notOf (ap (level n rs s (d + 1) strongest) (sym x) ∙ ih .exactly l n (omega arith)) ∙ not-is s t p) n (omega arith))
       n (omega arith)))
   all-read (encloses {d = d} {at = at} {q = q} {t = t} e b h c) o =
       let ih = all-read h (omega arith) in
       let v = onward class.Space s at in
       let u = onward class.Space s q in
       let z = said-past h (omega arith) in
-      let y = present s (skip s q) roundClose c (omega arith) in
+      let o′ = token-first s at roundOpen [] e in
+      let c′ = token-first s q roundClose [] c in
+      let y = present s (skip s q) roundClose c′ (omega arith) in
       let weak = round-weak s q c in
+      let x = token-after s at roundOpen round-open e in
+      let w = token-after s q roundClose round-close c in
       at-strongest (omega arith) (omega arith)
-      (λ l. pred (λ (n : ℕ). operand n rs s d at ≡ read t (skip s q + 1)) (calls s at 0)
-      (λ n j. operand-encloses rs s d at (skip s at) (next s at) refl refl e n
-      ∙ pred (λ (n : ℕ). enclosed n rs s d roundClose (skip s at + 1) ≡ read t (skip s q + 1)) (calls s at 0 - 1)
-      (λ n j. enclosed-in rs s d (skip s at + 1) roundClose b n ∙ ap (closed s roundClose) (ih .exactly (omega (arith, weak)) n (omega arith)) ∙ closed-is s roundClose t q c)
+      (λ l. pred (λ (n : ℕ). operand n rs s d at ≡ read t (afterToken s q)) (calls s at 0)
+      (λ n j. operand-encloses rs s d at (skip s at) (next s at) refl refl o′ n
+      ∙ pred (λ (n : ℕ). enclosed n rs s d roundClose (skip s at + 1) ≡ read t (afterToken s q)) (calls s at 0 - 1)
+      (λ n j. enclosed-in rs s d (skip s at + 1) roundClose b n
+      ∙ ap (closed s roundClose) (ap (level n rs s (d + 1) weakest) (sym x) ∙ ih .exactly (omega (arith, weak)) n (omega arith))
+      ∙ closed-is s roundClose t q c′ ∙ ap (read t) (sym w))
       n (omega arith)))
   all-read (fetches {d = d} {at = at} {q = q} {t = t} w e b h c) o =
       let ih = all-read h (omega arith) in
@@ -235,16 +259,24 @@ module _ (rs : List Named) (s : List ℕ) where
       let k = onward class.Space s (wordEnd s at) in
       let u = onward class.Space s q in
       let z = said-past h (omega arith) in
-      let y = present s (skip s q) squareClose c (omega arith) in
+      let c′ = token-first s q squareClose [] c in
+      let y = present s (skip s q) squareClose c′ (omega arith) in
       let weak = square-weak s q c in
-      let no : same (word s at) notToken ≡ false = ap (λ (z : List ℕ). same z notToken) w ∙ memory-no-not in
+      let a = after-word s at (word-of-letter (next s at) i) in
+      let e′ : next s (wordEnd s at) ≡ squareOpen = ap (next s) (sym a) ∙ token-first s (afterToken s at) squareOpen [] e in
+      let g : afterToken s (afterToken s at) ≡ skip s (wordEnd s at) + 1 = token-after s (afterToken s at) squareOpen square-open e ∙ ap (λ (j : ℕ). skip s j + 1) a in
+      let last = token-after s q squareClose square-close c in
+      let m = memory-word s at w in
+      let no : same (word s at) notToken ≡ false = ap (λ (z : List ℕ). same z notToken) m ∙ memory-no-not in
       at-strongest (omega arith) (omega arith)
-      (λ l. pred (λ (n : ℕ). operand n rs s d at ≡ read (memory t) (skip s q + 1)) (calls s at 0)
+      (λ l. pred (λ (n : ℕ). operand n rs s d at ≡ read (memory t) (afterToken s q)) (calls s at 0)
       (λ n j. operand-worded rs s d at (skip s at) (next s at) refl refl (no-open (next s at) i) i n
-      ∙ pred (λ (n : ℕ). worded n rs s d (skip s at) ≡ read (memory t) (skip s q + 1)) (calls s at 0 - 1)
-      (λ n j. worded-memory rs s d (skip s at) (wordEnd s at) (word s at) refl refl no (is-word (word s at) memoryToken memory-itself w) (skip s (wordEnd s at)) (next s (wordEnd s at)) refl refl e n
-      ∙ pred (λ (n : ℕ). enclosed n rs s d squareClose (skip s (wordEnd s at) + 1) ≡ read (memory t) (skip s q + 1)) (calls s at 0 - 2)
-      (λ n j. enclosed-in rs s d (skip s (wordEnd s at) + 1) squareClose b n ∙ ap (closed s squareClose) (ih .exactly (omega (arith, weak)) n (omega arith)) ∙ closed-is s squareClose t q c)
+      ∙ pred (λ (n : ℕ). worded n rs s d (skip s at) ≡ read (memory t) (afterToken s q)) (calls s at 0 - 1)
+      (λ n j. worded-memory rs s d (skip s at) (wordEnd s at) (word s at) refl refl no (is-word (word s at) memoryToken memory-itself m) (skip s (wordEnd s at)) (next s (wordEnd s at)) refl refl e′ n
+      ∙ pred (λ (n : ℕ). enclosed n rs s d squareClose (skip s (wordEnd s at) + 1) ≡ read (memory t) (afterToken s q)) (calls s at 0 - 2)
+      (λ n j. enclosed-in rs s d (skip s (wordEnd s at) + 1) squareClose b n
+      ∙ ap (closed s squareClose) (ap (level n rs s (d + 1) weakest) (sym g) ∙ ih .exactly (omega (arith, weak)) n (omega arith))
+      ∙ closed-is s squareClose t q c′ ∙ ap (read (memory t)) (sym last))
       n (omega arith)) n (omega arith)))
   all-read (is-register {d = d} {at = at} {r = r} {w = w} {p = p} n g l) o = named (said-past (is-register {d = d} n g l) o) n (ap ofReference (refers-read rs s (skip s at) g) ∙ whole-is s r w p l)
   all-read (is-part {d = d} {at = at} {r = r} {w = w} {a = a} {b = b} {p = p} n g l) o = named (said-past (is-part {d = d} n g l) o) n (ap ofReference (refers-read rs s (skip s at) g) ∙ part-is s r w a b p l)

@@ -1,5 +1,5 @@
--- What a token tells by its first byte: closing brackets are no operators, the words Not and M begin with a letter, and a constant begins neither with a letter
--- nor with a parenthesis. And words as compared.
+-- What a token tells: closing brackets are no operators, the words Not and M begin with a letter, and a constant begins neither with a letter nor with a parenthesis.
+-- And words as compared.
 -- Assumes nothing.
 use mathlib.Core.Path.{_≡_, refl, sym, ap, subst, _∙_}
 use mathlib.Core.Bool.{true, false, false≢true, _&&_}
@@ -13,7 +13,7 @@ use borrow.Author.Tests.{leb-true, lt-leb, eqb-true}
 use Rattle.laws.proofs.Tests.{by-test, by-case}
 use Rattle.laws.proofs.Joined.{and-left, and-right}
 use Rattle.laws.proofs.Lists.{present}
-use Rattle.characters.specs.Ascii.{digit}
+use Rattle.characters.specs.Ascii.{ascii, digit}
 use Rattle.characters.specs.Characters.{isDigit, isLetter, isWord, runEnd, same}
 use Rattle.characters.specs.declared.Class.the-variants.{Word, Binary, Octal, Decimal}
 use Rattle.characters.proofs.Strings.{equal}
@@ -23,30 +23,19 @@ use Rattle.constants.specs.declared.Constant.{Constant}
 use Rattle.constants.specs.declared.Constant.the-variants.{Found, Missing}
 use Rattle.operators.specs.Operators.{entryIn}
 use Rattle.operators.specs.OperatorNames.{operatorRow, findIn}
-use Rattle.tokens.specs.Tokens.{roundOpen, roundClose, squareClose, notToken, memoryToken, skip, next, tokenEnd, operatorAt}
-use Rattle.tokens.proofs.Tokens.{other-end}
-use Rattle.grammar.specs.Says.{wordEnd, word, strength}
+use Rattle.tokens.specs.Tokens.{next, token, operatorAt}
+use Rattle.tokens.specs.Signs.{roundOpen, roundClose, squareClose, notToken, memoryToken}
+use Rattle.tokens.proofs.Tokens.{word, token-first, token-word, word-token}
+use Rattle.grammar.specs.Says.{strength}
 
--- a sign that is no operator
-module _ (s : List ℕ) (q : ℕ) where
-  sign-none : (b : ℕ) → next s q ≡ b → 0 < b → isWord b ≡ false → (b ≡ binaryMark → ⊥) → (b ≡ octalMark → ⊥) → operatorAt s q ≡ operatorRow (b ∷ [])
-  unfolding operatorAt
-  sign-none b e h w m o =
-      let i = skip s q in
-      let z : tokenEnd s i ≡ i + 1 = other-end s i (ap isWord e ∙ w) (λ x. m (sym e ∙ x)) (λ x. o (sym e ∙ x)) in
-      let one : (i + 1) - i ≡ 1 = omega arith in
-      ap (λ (n : ℕ). operatorRow (take (n - i) (drop i s))) z
-      ∙ ap (λ (n : ℕ). operatorRow (take n (drop i s))) one
-      ∙ ap (λ (l : List ℕ). operatorRow (take 1 l)) (drop-cons s i 0 (present s i b e h))
-      ∙ ap (λ (x : ℕ). operatorRow (x ∷ [])) e
+-- closing brackets are no operators
+pub round-weak : (s : List ℕ) (q : ℕ) → token s q ≡ ascii ")" → strength s q ≡ 0
+unfolding operatorAt operatorRow findIn same
+round-weak s q e = ap (λ (l : List ℕ). entryIn (operatorRow l) .strength) e
 
-  pub round-weak : next s q ≡ roundClose → strength s q ≡ 0
-  unfolding operatorRow findIn same
-  round-weak e = ap (λ (i : ℕ). entryIn i .strength) (sign-none roundClose e (omega arith) refl (λ x. omega (arith, x)) (λ x. omega (arith, x)))
-
-  pub square-weak : next s q ≡ squareClose → strength s q ≡ 0
-  unfolding operatorRow findIn same
-  square-weak e = ap (λ (i : ℕ). entryIn i .strength) (sign-none squareClose e (omega arith) refl (λ x. omega (arith, x)) (λ x. omega (arith, x)))
+pub square-weak : (s : List ℕ) (q : ℕ) → token s q ≡ ascii "]" → strength s q ≡ 0
+unfolding operatorAt operatorRow findIn same
+square-weak s q e = ap (λ (l : List ℕ). entryIn (operatorRow l) .strength) e
 
 -- words as compared
 pub is-word : (a b : List ℕ) → same b b ≡ true → a ≡ b → same a b ≡ true
@@ -59,27 +48,25 @@ pub memory-no-not : same memoryToken notToken ≡ false
 unfolding same
 memory-no-not = refl
 
--- the first byte of a part
-empty : (b : ℕ) (t : List ℕ) → [] ≡ b ∷ t → ⊥
-empty b t e = none (ap (λ (l : List ℕ). length l) e)
-  where
-    none : 0 ≡ suc (length t) → ⊥
-    none h = omega (arith, h)
+-- the words Not and M, as tokens and as runs
+module _ (s : List ℕ) (at : ℕ) where
+  pub not-letter : token s at ≡ ascii "Not" → isLetter (next s at) ≡ true
+  not-letter e = ap isLetter (token-first s at _ _ e)
 
-first-is : (s : List ℕ) (n i b : ℕ) (t : List ℕ) → take n (drop i s) ≡ b ∷ t → getD s i 0 ≡ b
-first-is [] zero i b t e = absurd (empty b t e)
-first-is [] (suc n) zero b t e = absurd (empty b t e)
-first-is [] (suc n) (suc i) b t e = absurd (empty b t e)
-first-is (x ∷ s) zero zero b t e = absurd (empty b t e)
-first-is (x ∷ s) zero (suc i) b t e = absurd (empty b t e)
-first-is (x ∷ s) (suc n) zero b t e = ap (λ (l : List ℕ). getD l 0 0) e
-first-is (x ∷ s) (suc n) (suc i) b t e = first-is s (suc n) i b t e
+  pub memory-letter : token s at ≡ ascii "M" → isLetter (next s at) ≡ true
+  memory-letter e = ap isLetter (token-first s at _ _ e)
 
-pub not-letter : (s : List ℕ) (at : ℕ) → word s at ≡ notToken → isLetter (next s at) ≡ true
-not-letter s at e = ap isLetter (first-is s (wordEnd s at - skip s at) (skip s at) _ _ e)
+  pub not-word : token s at ≡ ascii "Not" → word s at ≡ ascii "Not"
+  not-word e = token-word s at _ _ refl e
 
-pub memory-letter : (s : List ℕ) (at : ℕ) → word s at ≡ memoryToken → isLetter (next s at) ≡ true
-memory-letter s at e = ap isLetter (first-is s (wordEnd s at - skip s at) (skip s at) _ _ e)
+  pub memory-word : token s at ≡ ascii "M" → word s at ≡ ascii "M"
+  memory-word e = token-word s at _ _ refl e
+
+  pub word-not : word s at ≡ ascii "Not" → token s at ≡ ascii "Not"
+  word-not e = word-token s at _ _ refl e
+
+  pub word-memory : word s at ≡ ascii "M" → token s at ≡ ascii "M"
+  word-memory e = word-token s at _ _ refl e
 
 pub no-open : (x : ℕ) → isLetter x ≡ true → x ≡ roundOpen → ⊥
 no-open x e o = false≢true (sym (ap isLetter o) ∙ e)

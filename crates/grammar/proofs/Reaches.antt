@@ -2,7 +2,7 @@
 -- Assumes nothing.
 use mathlib.Core.Path.{_≡_, refl, sym, ap, subst, _∙_}
 use mathlib.Core.Bool.{true, false, _&&_}
-use mathlib.Core.List.{List}
+use mathlib.Core.List.{List, [], _∷_}
 use Prim.Native.Nat.{ℕ, _+_, _-_, _≤_, _<_}
 use native.Mathlib.Omega.{arith}
 use lib.Dec.{eqb, leb, ltb}
@@ -11,7 +11,7 @@ use borrow.Author.Tests.{eqb-true}
 use Rattle.laws.proofs.Tests.{by-case}
 use Rattle.laws.proofs.Joined.{and-left}
 use Rattle.laws.proofs.Lists.{present}
-use Rattle.characters.specs.Characters.{isDigit, isWord, runEnd}
+use Rattle.characters.specs.Characters.{isDigit, isLetter, isWord, runEnd}
 use Rattle.characters.specs.Named.{Named, find}
 use Rattle.characters.specs.declared.Class.the-variants.{Word, Binary, Octal, Decimal}
 use Rattle.constants.specs.Constants.{binaryMark, octalMark, binaryDigits, octalDigits, largest, isPlain, numberAt, decimalAt, markedAt, ofDecimal, constantAt}
@@ -20,8 +20,9 @@ use Rattle.constants.specs.declared.Number.the-variants.{Plain, Unread}
 use Rattle.constants.specs.declared.Constant.{Constant}
 use Rattle.constants.specs.declared.Constant.the-variants.{Found, Missing}
 use Rattle.operators.specs.Operators.{rotations}
-use Rattle.tokens.specs.Tokens.{roundOpen, roundClose, squareOpen, squareClose, angleOpen, angleClose, colon, skip, next, slice, tokenEnd, operatorEnd}
-use Rattle.tokens.proofs.Tokens.{word-end, binary-end, octal-end, other-end}
+use Rattle.tokens.specs.Tokens.{skip, next, slice, tokenEnd, afterToken}
+use Rattle.tokens.specs.Signs.{roundOpen, roundClose, squareOpen, squareClose, angleOpen, angleClose, colon}
+use Rattle.tokens.proofs.Tokens.{Sign, round-open, round-close, square-open, square-close, angle-open, angle-close, colon-sign, wordEnd, word-end, binary-end, octal-end, token-first, sign-after}
 use Rattle.bit_parts.specs.References.{secondBit, firstBit, spanAt, partOf, widthIn, registerAt, referenceAt}
 use Rattle.bit_parts.specs.declared.Span.{Span}
 use Rattle.bit_parts.specs.declared.Span.the-variants.{Bits, Bad}
@@ -30,7 +31,8 @@ use Rattle.bit_parts.specs.declared.Reference.the-variants.{Whole, Part, Unknow
 use Rattle.bit_parts.proofs.Refers.{refers-read}
 use Rattle.bit_parts.proofs.Onward.{word-of-digit, word-of-letter, word-past, operator-inside}
 use Rattle.code.specs.Tree.{Expr}
-use Rattle.grammar.specs.Says.{wordEnd, Says, stronger, operates, rotates, complements, encloses, fetches, is-register, is-part, is-constant}
+use Rattle.grammar.specs.Says.{Says, stronger, operates, rotates, complements, encloses, fetches, is-register, is-part, is-constant}
+use Rattle.tokens.specs.Tokens as tokens
 use Rattle.grammar.specs.Reaches.{Reaches, nothing, token}
 use Rattle.grammar.proofs.Firsts.{not-letter, memory-letter}
 
@@ -49,30 +51,18 @@ module _ (s : List ℕ) where
         let past = word-past s (skip s q) e in
         one-more h (omega (arith, past)) (word-end s (skip s q) e)
 
-    sign-to : (q b : ℕ) → Reaches s at q → next s q ≡ b → 0 < b → isWord b ≡ false → (b ≡ binaryMark → ⊥) → (b ≡ octalMark → ⊥) → Reaches s at (skip s q + 1)
-    sign-to q b h e o w m n =
-        one-more h (present s (skip s q) b e o) (other-end s (skip s q) (ap isWord e ∙ w) (λ x. m (sym e ∙ x)) (λ x. n (sym e ∙ x)))
+    pub letter-to : (q : ℕ) → Reaches s at q → isLetter (next s q) ≡ true → Reaches s at (afterToken s q)
+    letter-to q h e =
+        let past = word-past s (skip s q) (word-of-letter (next s q) e) in
+        token h (omega (arith, past))
 
-    open-to : (q : ℕ) → Reaches s at q → next s q ≡ roundOpen → Reaches s at (skip s q + 1)
-    open-to q h e = sign-to q roundOpen h e (omega arith) refl (λ x. omega (arith, x)) (λ x. omega (arith, x))
+    pub sign-to : (q b : ℕ) → Sign b → Reaches s at q → tokens.token s q ≡ b ∷ [] → Reaches s at (afterToken s q)
+    sign-to q b g h e = token h (present s (skip s q) b (token-first s q b [] e) (g .some))
 
-    close-to : (q : ℕ) → Reaches s at q → next s q ≡ roundClose → Reaches s at (skip s q + 1)
-    close-to q h e = sign-to q roundClose h e (omega arith) refl (λ x. omega (arith, x)) (λ x. omega (arith, x))
-
-    pub square-to : (q : ℕ) → Reaches s at q → next s q ≡ squareOpen → Reaches s at (skip s q + 1)
-    square-to q h e = sign-to q squareOpen h e (omega arith) refl (λ x. omega (arith, x)) (λ x. omega (arith, x))
-
-    pub shut-to : (q : ℕ) → Reaches s at q → next s q ≡ squareClose → Reaches s at (skip s q + 1)
-    shut-to q h e = sign-to q squareClose h e (omega arith) refl (λ x. omega (arith, x)) (λ x. omega (arith, x))
-
-    less-to : (q : ℕ) → Reaches s at q → next s q ≡ angleOpen → Reaches s at (skip s q + 1)
-    less-to q h e = sign-to q angleOpen h e (omega arith) refl (λ x. omega (arith, x)) (λ x. omega (arith, x))
-
-    more-to : (q : ℕ) → Reaches s at q → eqb (next s q) angleClose ≡ true → Reaches s at (skip s q + 1)
-    more-to q h t = sign-to q angleClose h (eqb-true (next s q) angleClose t) (omega arith) refl (λ x. omega (arith, x)) (λ x. omega (arith, x))
-
-    colon-to : (q : ℕ) → Reaches s at q → eqb (next s q) colon ≡ true → Reaches s at (skip s q + 1)
-    colon-to q h t = sign-to q colon h (eqb-true (next s q) colon t) (omega arith) refl (λ x. omega (arith, x)) (λ x. omega (arith, x))
+    shown : (q b : ℕ) → Sign b → Reaches s at q → eqb (next s q) b ≡ true → Reaches s at (skip s q + 1)
+    shown q b g h t =
+        let e = eqb-true (next s q) b t in
+        one-more h (present s (skip s q) b e (g .some)) (sign-after s q b g e)
 
     -- a decimal
     abbrev NumberTo : Number → Type 0
@@ -132,17 +122,17 @@ module _ (s : List ℕ) where
 
     second-to : (a : ℕ) (n : Number) → NumberTo n → SpanTo (secondBit s a n)
     unfolding secondBit
-    second-to a (Plain b p) h = by-case SpanTo (eqb (next s p) angleClose) (λ t. more-to p h t) (λ t. tt)
+    second-to a (Plain b p) h = by-case SpanTo (eqb (next s p) angleClose) (λ t. shown p angleClose angle-close h t) (λ t. tt)
     second-to a Unread h = tt
 
     first-to : (n : Number) → NumberTo n → SpanTo (firstBit s n)
     unfolding firstBit
     first-to (Plain a p) h =
         by-case SpanTo (eqb (next s p) angleClose)
-        (λ t. more-to p h t)
+        (λ t. shown p angleClose angle-close h t)
         (λ t.
         by-case SpanTo (eqb (next s p) colon)
-        (λ u. second-to a (decimalAt s (skip s (skip s p + 1))) (decimal-to (skip s p + 1) (colon-to p h u)))
+        (λ u. second-to a (decimalAt s (skip s (skip s p + 1))) (decimal-to (skip s p + 1) (shown p colon colon-sign h u)))
         (λ u. tt))
     first-to Unread h = tt
 
@@ -162,29 +152,24 @@ module _ (s : List ℕ) where
         by-case ReferenceTo (eqb (next s end) angleOpen)
         (λ u.
         part-to r (widthIn rs r) (firstBit s (decimalAt s (skip s (skip s end + 1))))
-        (first-to (decimalAt s (skip s (skip s end + 1))) (decimal-to (skip s end + 1) (less-to end e (eqb-true (next s end) angleOpen u)))))
+        (first-to (decimalAt s (skip s (skip s end + 1))) (decimal-to (skip s end + 1) (shown end angleOpen angle-open e u))))
         (λ u. e))
         (λ t. tt)
-
-    -- an operator
-    operator-to : (q : ℕ) → Reaches s at q → skip s q < length s → Reaches s at (operatorEnd s q)
-    unfolding operatorEnd
-    operator-to q h l = token h l
 
 module _ (rs : List Named) (s : List ℕ) where
   pub says-reaches : {d k at p : ℕ} {t : Expr} → Says rs s d k at p t → 1 ≤ k → Reaches s at p
   says-reaches (stronger h) o = says-reaches h (omega arith)
   says-reaches (operates {k = k} {at = at} {q = q} h e n g w) o =
-      onward-to s (operator-to s at q (says-reaches h o) (operator-inside s q k e o)) (says-reaches g (omega arith))
+      onward-to s (token (says-reaches h o) (operator-inside s q k e o)) (says-reaches g (omega arith))
   says-reaches (rotates {at = at} {q = q} h e g l) o =
-      subst (NumberTo s at) g (decimal-to s at (operatorEnd s q) (operator-to s at q (says-reaches h o) (operator-inside s q rotations e o)))
+      subst (NumberTo s at) g (decimal-to s at (afterToken s q) (token (says-reaches h o) (operator-inside s q rotations e o)))
   says-reaches (complements {at = at} e l h) o =
-      onward-to s (word-to s at at nothing (word-of-letter (next s at) (not-letter s at e))) (says-reaches h o)
+      onward-to s (letter-to s at at nothing (not-letter s at e)) (says-reaches h o)
   says-reaches (encloses {at = at} {q = q} e l h c) o =
-      close-to s at q (onward-to s (open-to s at at nothing e) (says-reaches h (omega arith))) c
+      sign-to s at q roundClose round-close (onward-to s (sign-to s at at roundOpen round-open nothing e) (says-reaches h (omega arith))) c
   says-reaches (fetches {at = at} {q = q} w e l h c) o =
-      let m = word-to s at at nothing (word-of-letter (next s at) (memory-letter s at w)) in
-      shut-to s at q (onward-to s (square-to s at (wordEnd s at) m e) (says-reaches h (omega arith))) c
+      let m = letter-to s at at nothing (memory-letter s at w) in
+      sign-to s at q squareClose square-close (onward-to s (sign-to s at (afterToken s at) squareOpen square-open m e) (says-reaches h (omega arith))) c
   says-reaches (is-register {at = at} n g w) o = subst (ReferenceTo s at) (refers-read rs s (skip s at) g) (reference-to s at rs at nothing (word-of-letter (next s at) (n .letter)))
   says-reaches (is-part {at = at} n g w) o = subst (ReferenceTo s at) (refers-read rs s (skip s at) g) (reference-to s at rs at nothing (word-of-letter (next s at) (n .letter)))
   says-reaches (is-constant {at = at} g w) o = subst (ConstantTo s at) g (constant-to s at at nothing)

@@ -17,14 +17,18 @@ use Rattle.constants.specs.declared.Number.the-variants.{Plain, Unread}
 use Rattle.constants.specs.declared.Constant.{Constant}
 use Rattle.constants.specs.declared.Constant.the-variants.{Found, Missing}
 use Rattle.operators.specs.Operators.{weakest, strongest, rotations}
-use Rattle.tokens.specs.Tokens.{roundOpen, roundClose, squareOpen, squareClose, notToken, memoryToken, skip, next, operatorAt, operatorEnd}
+use Rattle.tokens.specs.Tokens.{skip, next, afterToken, operatorAt}
+use Rattle.tokens.specs.Signs.{roundOpen, roundClose, squareOpen, squareClose, notToken, memoryToken}
 use Rattle.bit_parts.specs.References.{referenceAt}
 use Rattle.bit_parts.proofs.Refers.{whole-referred, part-referred}
 use Rattle.bit_parts.specs.declared.Reference.{Reference}
 use Rattle.bit_parts.specs.declared.Reference.the-variants.{Whole, Part, Unknown}
-use Rattle.code.specs.Tree.{Expr, bitPart, binary, width, largestCount}
+use Rattle.tokens.proofs.Tokens.{round-open, round-close, square-open, square-close, word, wordEnd, after-word, sign-after, sign-token}
+use Rattle.bit_parts.proofs.Onward.{word-of-letter}
+use Rattle.code.specs.Tree.{Expr, memory, bitPart, binary, width, largestCount}
 use Rattle.code.specs.Readings.{Reading, read, outside, limited, ofReference, ofConstant, notOf, closed, rotationOf, joined}
-use Rattle.grammar.specs.Says.{deepest, wordEnd, word, operator, strength, Name, Says, stronger, operates, rotates, complements, encloses, fetches, is-register, is-part, is-constant}
+use Rattle.grammar.specs.Says.{deepest, operator, strength, Name, Says, stronger, operates, rotates, complements, encloses, fetches, is-register, is-part, is-constant}
+use Rattle.grammar.proofs.Firsts.{not-letter, memory-letter, not-word, memory-word, word-not, word-memory}
 use Rattle.grammar.specs.Grammar.{level, more, operation, operand, worded, negated, enclosed}
 
 -- a word that isn't another
@@ -64,27 +68,47 @@ module _ (rs : List Named) (s : List ℕ) where
 
   not-said : (d at : ℕ) (x : Reading) → word s at ≡ notToken → d < deepest → Said (d + 1) strongest (wordEnd s at) x → Said d strongest at (notOf x)
   unfolding notOf
-  not-said d at (read t p) e l h = complements e l h
+  not-said d at (read t p) e l h =
+      let k = word-not s at e in
+      complements k l (subst (λ (i : ℕ). Says rs s (d + 1) strongest i p t) (sym (after-word s at (word-of-letter (next s at) (not-letter s at k)))) h)
   not-said d at outside e l h = tt
 
   round-said : (d at : ℕ) (x : Reading) → next s at ≡ roundOpen → d < deepest → Said (d + 1) weakest (skip s at + 1) x → Said d strongest at (closed s roundClose x)
   unfolding closed
-  round-said d at (read t p) e l h = by-case (Said d strongest at) (eqb (next s p) roundClose) (λ u. encloses e l h (eqb-true (next s p) roundClose u)) (λ u. tt)
+  round-said d at (read t p) e l h =
+      by-case (Said d strongest at) (eqb (next s p) roundClose)
+      (λ u.
+      let c = eqb-true (next s p) roundClose u in
+      subst (λ (i : ℕ). Says rs s d strongest at i t) (sign-after s p roundClose round-close c)
+      (encloses (sign-token s at roundOpen round-open e) l (subst (λ (i : ℕ). Says rs s (d + 1) weakest i p t) (sym (sign-after s at roundOpen round-open e)) h)
+      (sign-token s p roundClose round-close c)))
+      (λ u. tt)
   round-said d at outside e l h = tt
 
   square-said : (d at : ℕ) (x : Reading) → word s at ≡ memoryToken → next s (wordEnd s at) ≡ squareOpen → d < deepest
       → Said (d + 1) weakest (skip s (wordEnd s at) + 1) x → Said d strongest at (closed s squareClose x)
   unfolding closed
-  square-said d at (read t p) w e l h = by-case (Said d strongest at) (eqb (next s p) squareClose) (λ u. fetches w e l h (eqb-true (next s p) squareClose u)) (λ u. tt)
+  square-said d at (read t p) w e l h =
+      by-case (Said d strongest at) (eqb (next s p) squareClose)
+      (λ u.
+      let c = eqb-true (next s p) squareClose u in
+      let k = word-memory s at w in
+      let z = after-word s at (word-of-letter (next s at) (memory-letter s at k)) in
+      let o : next s (afterToken s at) ≡ squareOpen = ap (next s) z ∙ e in
+      let y : skip s (wordEnd s at) + 1 ≡ afterToken s (afterToken s at) = ap (λ (i : ℕ). skip s i + 1) (sym z) ∙ sym (sign-after s (afterToken s at) squareOpen square-open o) in
+      subst (λ (i : ℕ). Says rs s d strongest at i (memory t)) (sign-after s p squareClose square-close c)
+      (fetches k (sign-token s (afterToken s at) squareOpen square-open o) l (subst (λ (i : ℕ). Says rs s (d + 1) weakest i p t) y h)
+      (sign-token s p squareClose square-close c)))
+      (λ u. tt)
   square-said d at outside w e l h = tt
 
-  rotation-said : (d at q : ℕ) (l : Expr) (n : Number) → Says rs s d rotations at q l → strength s q ≡ rotations → decimalAt s (skip s (operatorEnd s q)) ≡ n
+  rotation-said : (d at q : ℕ) (l : Expr) (n : Number) → Says rs s d rotations at q l → strength s q ≡ rotations → decimalAt s (skip s (afterToken s q)) ≡ n
       → Said d rotations at (rotationOf (operatorAt s q) l n)
   unfolding rotationOf
   rotation-said d at q l (Plain n p) h e g = by-case (Said d rotations at) (leb n largestCount) (λ u. rotates h e g (leb-true n largestCount u)) (λ u. tt)
   rotation-said d at q l Unread h e g = tt
 
-  joined-said : (d k at q : ℕ) (l : Expr) (x : Reading) → Says rs s d k at q l → strength s q ≡ k → (k ≡ rotations → ⊥) → Said d (k + 1) (operatorEnd s q) x
+  joined-said : (d k at q : ℕ) (l : Expr) (x : Reading) → Says rs s d k at q l → strength s q ≡ k → (k ≡ rotations → ⊥) → Said d (k + 1) (afterToken s q) x
       → Said d k at (joined (operatorAt s q) l x)
   unfolding joined limited
   joined-said d k at q l (read r p) h e n g =
@@ -116,9 +140,9 @@ module _ (rs : List Named) (s : List ℕ) where
         by-case (Said d k at) (eqb k rotations)
         (λ t.
         let g = eqb-true k rotations t in
-        subst (λ (j : ℕ). Said d j at (rotationOf (operatorAt s p) l (decimalAt s (skip s (operatorEnd s p))))) (sym g)
-        (rotation-said d at p l (decimalAt s (skip s (operatorEnd s p))) (subst (λ (j : ℕ). Says rs s d j at p l) g h) (e ∙ g) refl))
-        (λ t. joined-said d k at p l (level f rs s d (k + 1) (operatorEnd s p)) h e (λ g. off t g) (level-said f d (k + 1) (operatorEnd s p)))
+        subst (λ (j : ℕ). Said d j at (rotationOf (operatorAt s p) l (decimalAt s (skip s (afterToken s p))))) (sym g)
+        (rotation-said d at p l (decimalAt s (skip s (afterToken s p))) (subst (λ (j : ℕ). Says rs s d j at p l) g h) (e ∙ g) refl))
+        (λ t. joined-said d k at p l (level f rs s d (k + 1) (afterToken s p)) h e (λ g. off t g) (level-said f d (k + 1) (afterToken s p)))
       where
         off : eqb k rotations ≡ false → k ≡ rotations → ⊥
         off t g = false≢true (sym t ∙ ap (λ (j : ℕ). eqb j rotations) g)
@@ -146,7 +170,7 @@ module _ (rs : List Named) (s : List ℕ) where
         (λ v. tt))
         (λ u.
         reference-said d at (referenceAt rs s (skip s at))
-        (record { letter = i; no-not = other-word (word s at) notToken not-itself t; no-memory = other-word (word s at) memoryToken memory-itself u }) refl))
+        (record { letter = i; no-not = λ e. other-word (word s at) notToken not-itself t (not-word s at e); no-memory = λ e. other-word (word s at) memoryToken memory-itself u (memory-word s at e) }) refl))
 
     negated-said : (f d at : ℕ) → word s at ≡ notToken → Said d strongest at (negated f rs s d (wordEnd s at))
     negated-said zero d at e = tt

@@ -11,7 +11,8 @@ use Rattle.constants.specs.Constants.{decimalAt, constantAt}
 use Rattle.characters.specs.Named.{Named}
 use Rattle.characters.specs.declared.Class.the-variants.{Word}
 use Rattle.operators.specs.Operators.{entryIn, weakest, strongest, rotations}
-use Rattle.tokens.specs.Tokens.{roundOpen, roundClose, squareOpen, squareClose, notToken, memoryToken, skip, next, slice, operatorAt, operatorEnd}
+use Rattle.tokens.specs.Tokens.{skip, next, slice, operatorAt, afterToken}
+use Rattle.tokens.specs.Signs.{roundOpen, roundClose, squareOpen, squareClose, notToken, memoryToken}
 use Rattle.bit_parts.specs.References.{referenceAt}
 use Rattle.code.specs.Tree.{Expr}
 use Rattle.grammar.specs.Says.{deepest}
@@ -41,8 +42,8 @@ unfoldable mutual
   operation zero rs s d k l p = outside
   operation (suc f) rs s d k l p =
       elim (eqb k rotations) [
-        | true ↦ rotationOf (operatorAt s p) l (decimalAt s (skip s (operatorEnd s p)))
-        | false ↦ joined (operatorAt s p) l (level f rs s d (k + 1) (operatorEnd s p))
+        | true ↦ rotationOf (operatorAt s p) l (decimalAt s (skip s (afterToken s p)))
+        | false ↦ joined (operatorAt s p) l (level f rs s d (k + 1) (afterToken s p))
       ]
 
   -- an operand: in parentheses, a word or a constant

@@ -3,9 +3,9 @@
 use mathlib.Core.List.{List}
 use Prim.Native.Nat.{ℕ, _<_}
 use lib.ListN.{length}
-use Rattle.tokens.specs.Tokens.{skip, tokenEnd}
+use Rattle.tokens.specs.Tokens.{skip, afterToken}
 
 -- "Spaces may stand between tokens": from one place to another there are only whole tokens, and spaces before them
 pub data Reaches (s : List ℕ) (at : ℕ) : ℕ → Type 0 where
   nothing : Reaches s at at
-  token : {q : ℕ} → Reaches s at q → skip s q < length s → Reaches s at (tokenEnd s (skip s q))
+  token : {q : ℕ} → Reaches s at q → skip s q < length s → Reaches s at (afterToken s q)

@@ -1,21 +1,21 @@
 -- The grammar of expressions: which tree a stretch of the field s says, over the registers rs. `Says d k at p t`: inside d open brackets, parentheses and
 -- Nots, what stands from the place at to the place p says the tree t, by operators of the strength k and stronger ones. No order of reading is in it.
--- "Spaces may stand between tokens in an expression or destination": each rule passes over those before a token (`skip`, `next`).
+-- "Spaces may stand between tokens in an expression or destination": `token` is the one that stands next behind them.
 -- Assumes nothing.
 use mathlib.Core.Path.{_≡_}
 use mathlib.Core.Bool.{true}
 use mathlib.Core.List.{List}
 use Prim.Native.Nat.{ℕ, _+_, _≤_, _<_}
 use Rattle.word.specs.Word.{widest}
-use Rattle.characters.specs.Characters.{isLetter, runEnd}
+use Rattle.characters.specs.Ascii.{ascii}
+use Rattle.characters.specs.Characters.{isLetter}
 use Rattle.characters.specs.Named.{Named}
-use Rattle.characters.specs.declared.Class.the-variants as class
 use Rattle.constants.specs.Constants.{constantAt, decimalAt}
 use Rattle.constants.specs.declared.Number.the-variants.{Plain}
 use Rattle.constants.specs.declared.Constant.the-variants.{Found}
 use Rattle.operators.specs.declared.Operator.{Operator}
 use Rattle.operators.specs.Operators.{entryIn, weakest, strongest, rotations}
-use Rattle.tokens.specs.Tokens.{roundOpen, roundClose, squareOpen, squareClose, notToken, memoryToken, skip, next, slice, operatorAt, operatorEnd}
+use Rattle.tokens.specs.Tokens.{skip, next, afterToken, token, operatorAt}
 use Rattle.bit_parts.specs.Refers.{Refers}
 use Rattle.bit_parts.specs.declared.Reference.the-variants.{Whole, Part}
 use Rattle.code.specs.Tree.{Expr, register, bitPart, constant, memory, complemented, rotated, binary, width, largestCount}
@@ -25,13 +25,6 @@ abbrev pub deepest : ℕ
 deepest = 8
 
 module _ (s : List ℕ) where
-  -- the word that stands next, and the place after it
-  abbrev pub wordEnd : ℕ → ℕ
-  wordEnd at = runEnd class.Word s (skip s at)
-
-  abbrev pub word : ℕ → List ℕ
-  word at = slice s (skip s at) (wordEnd at)
-
   -- the operator that stands next, and its strength, which is 0 where none does
   abbrev pub operator : ℕ → Operator
   operator q = entryIn (operatorAt s q) .operator
@@ -42,26 +35,26 @@ module _ (s : List ℕ) where
   -- a name stands next: "a letter first", and neither Not nor M
   pub record Name (at : ℕ) : Type 0 where
     pub letter : isLetter (next s at) ≡ true
-    pub no-not : word at ≡ notToken → ⊥
-    pub no-memory : word at ≡ memoryToken → ⊥
+    pub no-not : token s at ≡ ascii "Not" → ⊥
+    pub no-memory : token s at ≡ ascii "M" → ⊥
 
 pub data Says (rs : List Named) (s : List ℕ) : ℕ → ℕ → ℕ → ℕ → Expr → Type 0 where
   -- what is said by stronger operators is said by weaker ones, too
   stronger : {d k at p : ℕ} {t : Expr} → Says rs s d (k + 1) at p t → Says rs s d k at p t
   -- "the others group from the left": on the left an operator's own strength, on the right only stronger ones. "No width may pass 16"
-  operates : {d k at q p : ℕ} {l r : Expr} → Says rs s d k at q l → strength s q ≡ k → (k ≡ rotations → ⊥) → Says rs s d (k + 1) (operatorEnd s q) p r
+  operates : {d k at q p : ℕ} {l r : Expr} → Says rs s d k at q l → strength s q ≡ k → (k ≡ rotations → ⊥) → Says rs s d (k + 1) (afterToken s q) p r
       → width (binary (operator s q) l r) ≤ widest → Says rs s d k at p (binary (operator s q) l r)
   -- "Slr, Srr (rotate; right side a decimal from 0 to 15 ..)"
-  rotates : {d at q n p : ℕ} {l : Expr} → Says rs s d rotations at q l → strength s q ≡ rotations → decimalAt s (skip s (operatorEnd s q)) ≡ Plain n p
+  rotates : {d at q n p : ℕ} {l : Expr} → Says rs s d rotations at q l → strength s q ≡ rotations → decimalAt s (skip s (afterToken s q)) ≡ Plain n p
       → n ≤ largestCount → Says rs s d rotations at p (rotated (operator s q) l n)
   -- "Not is prefix"; "a Not is open to its operand's end"
-  complements : {d at p : ℕ} {t : Expr} → word s at ≡ notToken → d < deepest → Says rs s (d + 1) strongest (wordEnd s at) p t
+  complements : {d at p : ℕ} {t : Expr} → token s at ≡ ascii "Not" → d < deepest → Says rs s (d + 1) strongest (afterToken s at) p t
       → Says rs s d strongest at p (complemented t)
   -- "Expressions hold names, bit parts, `M[..]`, `(..)` and constants"
-  encloses : {d at q : ℕ} {t : Expr} → next s at ≡ roundOpen → d < deepest → Says rs s (d + 1) weakest (skip s at + 1) q t → next s q ≡ roundClose
-      → Says rs s d strongest at (skip s q + 1) t
-  fetches : {d at q : ℕ} {t : Expr} → word s at ≡ memoryToken → next s (wordEnd s at) ≡ squareOpen → d < deepest
-      → Says rs s (d + 1) weakest (skip s (wordEnd s at) + 1) q t → next s q ≡ squareClose → Says rs s d strongest at (skip s q + 1) (memory t)
+  encloses : {d at q : ℕ} {t : Expr} → token s at ≡ ascii "(" → d < deepest → Says rs s (d + 1) weakest (afterToken s at) q t → token s q ≡ ascii ")"
+      → Says rs s d strongest at (afterToken s q) t
+  fetches : {d at q : ℕ} {t : Expr} → token s at ≡ ascii "M" → token s (afterToken s at) ≡ ascii "[" → d < deepest
+      → Says rs s (d + 1) weakest (afterToken s (afterToken s at)) q t → token s q ≡ ascii "]" → Says rs s d strongest at (afterToken s q) (memory t)
   is-register : {d at r w p : ℕ} → Name s at → Refers rs s (skip s at) (Whole r w p) → w ≤ widest → Says rs s d strongest at p (register r w)
   is-part : {d at r w a b p : ℕ} → Name s at → Refers rs s (skip s at) (Part r w a b p) → width (bitPart r w a b) ≤ widest
       → Says rs s d strongest at p (bitPart r w a b)

@@ -3,6 +3,8 @@ use characters::Class;
 use code::CODE_PLACES;
 use code::Cursor;
 use code::Part;
+use code::compounds;
+use code::leaves;
 use names::Dictionary;
 use operators::NOT;
 use operators::OR;
@@ -96,7 +98,7 @@ fn read_operation(
     let end = tokens::operator_end(s, left.place);
     let rotations = operators::entry_in(SLR).strength;
     if strength == rotations {
-        return code::compounds::rotated_part(s, code, row, left, width, end);
+        return compounds::rotated_part(s, code, row, left, width, end);
     }
     let start = Cursor {
         place: end,
@@ -104,7 +106,7 @@ fn read_operation(
         pieces: left.pieces,
     };
     match read_level(text, d, s, code, depth, strength + 1, start) {
-        Part::Found(right, other) => code::compounds::joined_part(code, row, left, width, right, other),
+        Part::Found(right, other) => compounds::joined_part(code, row, left, width, right, other),
         Part::Fault => Part::Fault,
     }
 }
@@ -141,7 +143,7 @@ fn read_operand(
     if characters::is_letter(first) {
         read_worded(text, d, s, code, depth, here)
     } else {
-        code::leaves::constant_part(s, code, here)
+        leaves::constant_part(s, code, here)
     }
 }
 
@@ -182,7 +184,7 @@ fn read_worded(
         };
         return read_enclosed(text, d, s, code, depth, b']', address);
     }
-    code::leaves::reference_part(text, d, s, code, c)
+    leaves::reference_part(text, d, s, code, c)
 }
 
 // What a Not stands before.
@@ -202,7 +204,7 @@ fn read_negated(
     if depth < DEEPEST {
         let own = operators::entry_in(NOT).strength;
         match read_level(text, d, s, code, depth + 1, own, c) {
-            Part::Found(operand, width) => code::compounds::complemented_part(code, operand, width),
+            Part::Found(operand, width) => compounds::complemented_part(code, operand, width),
             Part::Fault => Part::Fault,
         }
     } else {
@@ -228,7 +230,7 @@ fn read_enclosed(
     if depth < DEEPEST {
         let weakest = operators::entry_in(OR).strength;
         match read_level(text, d, s, code, depth + 1, weakest, c) {
-            Part::Found(inner, width) => code::compounds::closed_part(s, code, inner, width, close),
+            Part::Found(inner, width) => compounds::closed_part(s, code, inner, width, close),
             Part::Fault => Part::Fault,
         }
     } else {

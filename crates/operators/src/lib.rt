@@ -1,5 +1,6 @@
 // The operators and their one table.
 pub mod names;
+
 ghost use mathlib.Core.Path.{_≡_};
 ghost use Prim.Native.Nat.{_≤_, max};
 ghost use Rattle.word.specs.Word.{widest};

@@ -10,7 +10,7 @@ use Rattle.fields.specs.Fields.{lines, field, hasFields}
 use Rattle.characters.specs.Named.{find}
 use Rattle.names.specs.Names.{isName}
 use Rattle.operators.specs.OperatorNames.{findIn, operatorRow}
-use Rattle.tokens.specs.Tokens.{tokenEnd, operatorAt, operatorEnd}
+use Rattle.tokens.specs.Tokens.{tokenEnd, operatorAt}
 use Rattle.bit_parts.specs.References.{secondBit, firstBit, spanAt, partOf, registerAt, referenceAt}
 use Rattle.code.specs.Readings.{limited, ofReference, ofConstant, notOf, closed, rotationOf, joined}
 use Rattle.grammar.specs.Grammar.{level}
@@ -26,7 +26,7 @@ use Rattle.description.specs.Line.{byWord, readLine}
 
 pub shipped-accepted : readText shippedText ≡ accepted tree
 unfolding run runEnd same numberAt decimalAt markedAt shortestFrom ofDecimal constantAt lines field hasFields isName find findIn operatorRow tokenEnd
-    operatorAt operatorEnd secondBit firstBit spanAt partOf registerAt referenceAt limited ofReference ofConstant notOf closed rotationOf joined level whole
+    operatorAt secondBit firstBit spanAt partOf registerAt referenceAt limited ofReference ofConstant notOf closed rotationOf joined level whole
     expression ofName ofAddress memoryAt destination addRegister regLine piecesOf addRow addDo doLine passes addGo goLine addLabel atLine byWord readLine firstMissing
     finished readLines readBelow readAll readText shippedText
 shipped-accepted = refl

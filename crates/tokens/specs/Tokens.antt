@@ -6,40 +6,10 @@ use mathlib.Core.Bool.{true, false}
 use mathlib.Core.List.{List}
 use lib.Dec.{eqb}
 use lib.ListN.{getD, take, drop}
-use Rattle.characters.specs.Ascii.{ascii, byteOf}
 use Rattle.characters.specs.Characters.{isWord, runEnd}
 use Rattle.characters.specs.declared.Class.the-variants.{Space, Word, Binary, Octal}
 use Rattle.constants.specs.Constants.{binaryMark, octalMark}
 use Rattle.operators.specs.OperatorNames.{operatorRow}
-
--- the signs `(`, `)`, `[`, `]`, `<`, `>` and `:`
-abbrev pub roundOpen : ℕ
-roundOpen = byteOf "("
-
-abbrev pub roundClose : ℕ
-roundClose = byteOf ")"
-
-abbrev pub squareOpen : ℕ
-squareOpen = byteOf "["
-
-abbrev pub squareClose : ℕ
-squareClose = byteOf "]"
-
-abbrev pub angleOpen : ℕ
-angleOpen = byteOf "<"
-
-abbrev pub angleClose : ℕ
-angleClose = byteOf ">"
-
-abbrev pub colon : ℕ
-colon = byteOf ":"
-
--- the words `Not` and `M`
-abbrev pub notToken : List ℕ
-notToken = ascii "Not"
-
-abbrev pub memoryToken : List ℕ
-memoryToken = ascii "M"
 
 -- the place of the next token
 abbrev pub skip : List ℕ → ℕ → ℕ
@@ -61,13 +31,17 @@ tokenEnd s at =
           ]
     ]
 
--- a token from its start to its end
+-- a part of the field, from one place to another
 abbrev pub slice : List ℕ → ℕ → ℕ → List ℕ
 slice s at end = take (end - at) (drop at s)
 
--- the operator that stands next, and the place after it
-unfoldable pub operatorAt : List ℕ → ℕ → ℕ
-operatorAt s at = operatorRow (slice s (skip s at) (tokenEnd s (skip s at)))
+-- the token that stands next, and the place after it
+abbrev pub afterToken : List ℕ → ℕ → ℕ
+afterToken s at = tokenEnd s (skip s at)
 
-unfoldable pub operatorEnd : List ℕ → ℕ → ℕ
-operatorEnd s at = tokenEnd s (skip s at)
+abbrev pub token : List ℕ → ℕ → List ℕ
+token s at = slice s (skip s at) (afterToken s at)
+
+-- the row of the operator that stands next, the row past the last if none does
+unfoldable pub operatorAt : List ℕ → ℕ → ℕ
+operatorAt s at = operatorRow (token s at)

@@ -3,7 +3,7 @@ use characters::Class;
 ghost use mathlib.Core.Path.{_≡_};
 ghost use Prim.Native.Nat.{_≤_};
 ghost use lib.ListN.{length};
-ghost use Rattle.tokens.specs.Tokens.{skip, tokenEnd, operatorAt, operatorEnd};
+ghost use Rattle.tokens.specs.Tokens.{skip, tokenEnd, operatorAt, afterToken};
 
 // The place of the next token.
 pub fn skip_spaces(s: &[u8], at: usize) -> usize
@@ -43,7 +43,7 @@ pub fn operator_at(s: &[u8], at: usize) -> usize
 // The place after the token that stands next.
 pub fn operator_end(s: &[u8], at: usize) -> usize
     requires { ⌜ at ≤ length (now s) ⌝ }
-    ensures { λ r. ⌜ r ≡ operatorEnd (now (s .entry)) at ⌝ }
+    ensures { λ r. ⌜ r ≡ afterToken (now (s .entry)) at ⌝ }
 {
     token_end(s, skip_spaces(s, at))
 }

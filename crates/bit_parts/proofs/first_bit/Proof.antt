@@ -4,7 +4,8 @@ use Prim.Native.Nat.{ℕ, _+_}
 use native.Mathlib.Omega.{arith}
 use Rattle.laws.proofs.Lists.{present}
 use Rattle.tokens.proofs.Tokens.{at-mark, off-mark}
-use Rattle.tokens.specs.Tokens.{angleClose, colon, skip}
+use Rattle.tokens.specs.Tokens.{skip}
+use Rattle.tokens.specs.Signs.{angleClose, colon}
 use Rattle.bit_parts.specs.References.{firstBit, secondBit}
 use Rattle.constants.specs.Constants.{decimalAt}
 use borrow.Author.Needs.{needs}

@@ -2,7 +2,7 @@
 use mathlib.Core.Path.{sym, ap, _∙_}
 use Prim.Native.Nat.{ℕ, _+_}
 use native.Mathlib.Omega.{arith}
-use Rattle.tokens.specs.Tokens.{angleOpen}
+use Rattle.tokens.specs.Signs.{angleOpen}
 use Rattle.laws.proofs.Lists.{present}
 use Rattle.tokens.proofs.Tokens.{at-mark, off-mark}
 use Rattle.bit_parts.specs.References.{partOf, spanAt, registerAt}

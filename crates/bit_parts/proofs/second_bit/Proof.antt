@@ -1,7 +1,7 @@
 -- `bit_parts::second_bit` is its definition, case by case.
 use mathlib.Core.Path.{sym, _∙_}
 use native.Mathlib.Omega.{arith}
-use Rattle.tokens.specs.Tokens.{angleClose}
+use Rattle.tokens.specs.Signs.{angleClose}
 use Rattle.laws.proofs.Lists.{present}
 use Rattle.tokens.proofs.Tokens.{at-mark, off-mark}
 use Rattle.bit_parts.specs.References.{secondBit}

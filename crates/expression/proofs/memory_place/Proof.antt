@@ -6,7 +6,7 @@ use Rattle.names.specs.Dictionaries.{entries}
 use Rattle.operators.specs.declared.Entry.{Entry}
 use Rattle.operators.specs.Operators.{weakest}
 use Rattle.laws.proofs.Lists.{present}
-use Rattle.tokens.specs.Tokens.{squareOpen}
+use Rattle.tokens.specs.Signs.{squareOpen}
 use Rattle.grammar.specs.Grammar.{level, fuel}
 use Rattle.expression.specs.Expression.{ofAddress, memoryAt}
 use Rattle.expression.proofs.Destinations.{address-fault, aimed, opens, bare}

@@ -1,6 +1,6 @@
 -- `tokens::operator_end` is its definition, read off the calls.
 use mathlib.Core.Path.{ap, _∙_}
-use Rattle.tokens.specs.Tokens.{tokenEnd, operatorEnd}
+use Rattle.tokens.specs.Tokens.{tokenEnd}
 use Rattle.characters.specs.declared.Class.the-variants.{Space}
 use Rattle.characters.proofs.Runs.{within}
 use borrow.Author.Needs.{needs}
@@ -16,7 +16,6 @@ token-end-requires c κs =
     rw (c .skip-spaces .ensures) (within Space (entry .args .s .now) (entry .args .at) (entry .pre))
 
 returns : tie.Need-returns
-unfolding operatorEnd
 returns c =
     c .token-end .ensures ∙ ap (tokenEnd (c .before .before .before .args .s .now)) (c .before .skip-spaces .ensures)
 

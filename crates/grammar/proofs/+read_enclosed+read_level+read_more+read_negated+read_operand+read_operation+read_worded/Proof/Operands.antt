@@ -7,7 +7,7 @@ use borrow.Author.Needs.{needs}
 use lib.ListN.{getD}
 use Rattle.names.specs.Dictionaries.{entries}
 use Rattle.bit_parts.specs.References.{referenceAt}
-use Rattle.tokens.specs.Tokens.{roundOpen, roundClose, squareOpen, squareClose}
+use Rattle.tokens.specs.Signs.{roundOpen, roundClose, squareOpen, squareClose}
 use Rattle.grammar.specs.Grammar.{worded, negated, enclosed}
 use Rattle.code.specs.Readings.{outside, ofConstant, ofReference}
 use Rattle.grammar.specs.Met.{calls}

@@ -5,14 +5,14 @@ use mathlib.Core.List.{List, []}
 use Prim.Native.Nat.{ℕ}
 use Rattle.image.specs.Input.{clear}
 use Rattle.image.specs.Pass.{pass}
-use Rattle.inquiry.specs.Input.{ready}
-use Rattle.inquiry.specs.Scan.{Scan}
+use Rattle.image.specs.Scan.{Scan}
+use Rattle.inquiry.specs.Input.{Inquiry, ready}
 use Rattle.inquiry.proofs.begin.Statement.{statement}
 use Rattle.inquiry.proofs.begin.Tie as tie
 
 -- before the first byte, with such registers
-abbrev begun : List ℕ → Scan
-begun registers = record { line = 1; part = []; refused = 0; inquiry = record { registers = registers; budget = 16; memory = clear } }
+abbrev begun : List ℕ → Scan Inquiry
+begun registers = record { line = 1; part = []; refused = 0; made = record { registers = registers; budget = 16; memory = clear } }
 
 values-of-requires : tie.Need-values-of-requires
 values-of-requires c κs = search needs

@@ -14,7 +14,7 @@ use Rattle.machine.specs.Registers.{machineRegisters, widths, values, machineOf
 use Rattle.pdp8.specs.Run.{Run, run}
 use Rattle.emulator.specs.declared.Answer as emulator
 use Rattle.emulator.specs.declared.Answer.the-variants as emulated
-use Rattle.value.specs.Fitting.{registerPlaces}
+use Rattle.text_limits.specs.Limits.{mostRegisters}
 use Rattle.cycles.specs.Run as cycles
 use Rattle.last_lines.specs.LastLines.{endLine, refusedLine}
 use Rattle.fields.specs.Fields.{lines}
@@ -29,7 +29,7 @@ use Rattle.run_lines.specs.Rows.{rowLines}
 
 -- a machine's registers, as the evaluator takes them: "the evaluator's sixteen places", with 0 in those of no machine register
 abbrev pub placesOf : Machine → List ℕ
-placesOf m = values m ++ replicate (registerPlaces - length machineRegisters) 0
+placesOf m = values m ++ replicate (mostRegisters - length machineRegisters) 0
 
 -- what is said of a run of the machine, of the state before its last step, and of the run of the rows: "how the run ended"; "the instruction of the last step" and each "word of
 -- memory that the last step changed"; "the six machine registers, then the working registers of the description"; each "row that acted in the last step"

@@ -8,16 +8,16 @@ use lib.ListN.{length, getD, set, take, replicate, length-set}
 use lib.Seq.{sets, take-all}
 use Rattle.machine.specs.Registers.{machineRegisters}
 use Rattle.machine.proofs.Places.{copied-more}
-use Rattle.value.specs.Fitting.{registerPlaces}
+use Rattle.text_limits.specs.Limits.{mostRegisters}
 use Rattle.explanation.proofs.places_of.Statement.{statement}
 use Rattle.explanation.proofs.places_of.Tie as tie
 
 -- before the first value
 abbrev none : List ℕ
-none = replicate registerPlaces 0
+none = replicate mostRegisters 0
 
 abbrev Inv-loop : tie.InvT-loop
-Inv-loop all places₀ k₀ places k = (length places ≡ registerPlaces) × (places ≡ sets places₀ 0 (take k all))
+Inv-loop all places₀ k₀ places k = (length places ≡ mostRegisters) × (places ≡ sets places₀ 0 (take k all))
 
 abbrev μ-loop : tie.MeasureT-loop
 μ-loop all places₀ k₀ places k = length machineRegisters - k

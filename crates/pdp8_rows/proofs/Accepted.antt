@@ -19,7 +19,8 @@ use Rattle.declaration.specs.Rows.{Description, piecesOf}
 use Rattle.declaration.specs.Lines.{addRegister, regLine, addLabel, atLine}
 use Rattle.targets.specs.Targets.{passes, firstMissing}
 use Rattle.row.specs.Lines.{addRow, addDo, doLine, addGo, goLine}
-use Rattle.pdp8_rows.specs.Text.{shippedText, described, shipped, mostShippedRows}
+use Rattle.pdp8_rows.specs.Text.{shippedText}
+use Rattle.pdp8_rows.specs.Shipped.{described, shipped, mostShippedRows}
 use Rattle.pdp8_rows.proofs.Tree.{tree}
 use Rattle.description.specs.Description.{accepted, finished, readLines, readBelow, readAll, readText}
 use Rattle.description.specs.Line.{byWord, readLine}

@@ -15,7 +15,7 @@ use Rattle.machine.proofs.Keeps.{pc-good}
 use Rattle.pdp8.specs.Step.{execute, step}
 use Rattle.cycles.specs.Cycle.{cycle}
 use Rattle.declaration.specs.Rows.{Description}
-use Rattle.pdp8_rows.specs.Text.{shipped}
+use Rattle.pdp8_rows.specs.Shipped.{shipped}
 use Rattle.pdp8_rows.proofs.Tree.{rows·fetch, rows·decode}
 use Rattle.pdp8_rows.proofs.Accepted.{shipped-is}
 use Rattle.pdp8_rows.proofs.Places.{Work, Fit, inPlaces, fetched, fetched-fit}

@@ -18,7 +18,7 @@ use Rattle.value.specs.Value as rows
 use Rattle.cycles.specs.Cycle.{Cycle, cycle}
 use Rattle.cycles.specs.Run as cycles
 use Rattle.cycles.specs.Run.{running}
-use Rattle.pdp8_rows.specs.Text.{shipped}
+use Rattle.pdp8_rows.specs.Shipped.{shipped}
 use Rattle.pdp8_rows.proofs.Accepted.{shipped-is}
 use Rattle.pdp8_rows.proofs.Places.{Work, Fit, inPlaces}
 use Rattle.pdp8_rows.proofs.Cycles.{cycles-step}

@@ -1,10 +1,8 @@
--- The shipped description: its text, line by line, which is description/pdp8.rows, and what the reader reads in it.
+-- The shipped description's text, line by line: description/pdp8.rows. What it says of the machine need not be believed: that its cycles do the machine's steps is proved.
 -- Assumes nothing.
-use mathlib.Core.List.{List, [], _++_}
+use mathlib.Core.List.{List, _++_}
 use Prim.Native.Nat.{ℕ}
 use Rattle.characters.specs.Ascii.{ascii}
-use Rattle.declaration.specs.Rows.{Description}
-use Rattle.description.specs.Description.{Acceptance, accepted, turnedDown, readText}
 
 unfoldable pub shippedText : List ℕ
 shippedText =
@@ -104,15 +102,3 @@ shippedText =
     ++ ascii "do\t1\tPC\t1\n"
     ++ ascii "do\t1\tINTERRUPT.ENABLE\t0\n"
     ++ ascii "at\trestart\n"
-
--- the description that was read; a text that is turned down has none
-abbrev pub described : Acceptance → Description
-described (accepted d) = d
-described (turnedDown fault line) = record { registers = []; rows = [] }
-
-unfoldable pub shipped : Description
-shipped = described (readText shippedText)
-
--- "the shipped description (at most 80 rows)"
-abbrev pub mostShippedRows : ℕ
-mostShippedRows = 80

@@ -8,7 +8,8 @@ use Rattle.characters.specs.Characters.{run, same}
 use Rattle.fields.specs.Fields.{lines, field}
 use Rattle.declaration.specs.Rows.{Row, does, goes, Description}
 use Rattle.targets.specs.Targets.{passes}
-use Rattle.pdp8_rows.specs.Text.{shippedText, shipped}
+use Rattle.pdp8_rows.specs.Text.{shippedText}
+use Rattle.pdp8_rows.specs.Shipped.{shipped}
 use Rattle.pdp8_rows.proofs.Tree.{tree}
 use Rattle.pdp8_rows.proofs.Accepted.{shipped-is}
 use Rattle.run_lines.specs.Rows.{rowTexts, isGo, labelOf, rowBelow}

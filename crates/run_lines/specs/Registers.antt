@@ -7,7 +7,7 @@ use Rattle.characters.specs.Ascii.{tab, lineFeed}
 use Rattle.page.specs.Text.{octal}
 use Rattle.characters.specs.Named.{Named}
 use Rattle.machine.specs.Registers.{machineRegisters, digitsOf}
-use Rattle.pdp8_rows.specs.Text.{shipped}
+use Rattle.pdp8_rows.specs.Shipped.{shipped}
 
 -- "its name and the value that the run leaves, in octal with a digit for every three bits begun"
 abbrev pub registerLine : Named → ℕ → List ℕ

@@ -19,7 +19,8 @@ use Rattle.value.specs.Value as rows
 use Rattle.cycles.specs.Run as cycles
 use Rattle.evaluator.specs.Evaluate as evaluator
 use Rattle.evaluator.specs.Evaluate.{evaluate, evaluateOf, check}
-use Rattle.pdp8_rows.specs.Text.{shippedText, shipped}
+use Rattle.pdp8_rows.specs.Text.{shippedText}
+use Rattle.pdp8_rows.specs.Shipped.{shipped}
 use Rattle.shipped.specs.Claim.{machinePart, Start, Same, cyclesOf, Claim}
 use Rattle.pdp8_rows.proofs.Accepted.{shipped-read}
 use Rattle.pdp8_rows.proofs.Runs.{Alike, runs-alike}

@@ -21,7 +21,8 @@ use Rattle.cycles.specs.Run as cycles
 use Rattle.cycles.specs.Run.{running}
 use Rattle.evaluator.specs.Evaluate as evaluator
 use Rattle.evaluator.specs.Evaluate.{evaluate}
-use Rattle.pdp8_rows.specs.Text.{shippedText, shipped}
+use Rattle.pdp8_rows.specs.Text.{shippedText}
+use Rattle.pdp8_rows.specs.Shipped.{shipped}
 use Rattle.shipped.specs.Claim.{Start, Claim}
 use Rattle.pdp8_rows.proofs.Runs.{running-in-places}
 use Rattle.shipped.proofs.Starts.{workOf, start-in-places}

@@ -21,7 +21,7 @@ use Rattle.emulator.proofs.Starts.{good-checked}
 use Rattle.value.specs.Value as rows
 use Rattle.evaluator.specs.Evaluate.{widthsOf, check}
 use Rattle.declaration.specs.Rows.{Description}
-use Rattle.pdp8_rows.specs.Text.{shipped}
+use Rattle.pdp8_rows.specs.Shipped.{shipped}
 use Rattle.shipped.specs.Claim.{Start}
 use Rattle.pdp8_rows.proofs.Tree.{tree}
 use Rattle.pdp8_rows.proofs.Accepted.{shipped-is}

@@ -18,7 +18,8 @@ use Rattle.emulator.specs.Emulate.{emulate}
 use Rattle.text_limits.specs.Limits.{mostRegisters}
 use Rattle.description.specs.Description as text
 use Rattle.evaluator.specs.Evaluate.{Report, refused, finished, widthsOf, check, evaluateOf, evaluate}
-use Rattle.pdp8_rows.specs.Text.{shippedText, shipped}
+use Rattle.pdp8_rows.specs.Text.{shippedText}
+use Rattle.pdp8_rows.specs.Shipped.{shipped}
 use Rattle.shipped.specs.Claim.{machinePart, Start, Same, cyclesOf, Claim, Together}
 use Rattle.pdp8_rows.proofs.Accepted.{shipped-read}
 use Rattle.shipped.proofs.Agree.{runs-agree}

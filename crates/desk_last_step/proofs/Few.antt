@@ -10,14 +10,14 @@ use lib.ListN.{length, getD, set}
 use Rattle.word.specs.Choice.{on}
 use Rattle.word.specs.Word.{next}
 use Rattle.word.proofs.Choice.{pick-either}
-use Rattle.machine.specs.State.{State, word, withPc, withMemory, ac}
-use Rattle.machine.specs.Instruction.{op, flag}
-use Rattle.machine.specs.Interrupt.{ion, iof, interruptTest, inputOutput}
-use Rattle.operate.specs.Operate.{group1, group2, group3, operate}
-use Rattle.reference.specs.Address.{firstAddress, isIndex, indexed, effective, afterIndexing}
-use Rattle.reference.specs.Reference.{operation, reference}
-use Rattle.reference.proofs.Ops.{by-op}
-use Rattle.pdp8.specs.Step.{execute, step}
+use Rattle.machine_state.specs.State.{State, word, withPc, withMemory, ac}
+use Rattle.machine_state.specs.Instruction.{op, flag}
+use Rattle.machine_state.specs.Interrupt.{ion, iof, interruptTest, inputOutput}
+use Rattle.machine_operate.specs.Operate.{group1, group2, group3, operate}
+use Rattle.machine_reference.specs.Address.{firstAddress, isIndex, indexed, effective, afterIndexing}
+use Rattle.machine_reference.specs.Reference.{operation, reference}
+use Rattle.machine_reference.proofs.Ops.{by-op}
+use Rattle.machine_run.specs.Step.{execute, step}
 use Rattle.desk_last_step.specs.LastStep.{changeLines}
 use Rattle.desk_last_step.specs.Sizes.{wordLineBytes, changeLinesBytes}
 use Rattle.desk_last_step.proofs.Changes.{unchanged, stored-size}

@@ -5,8 +5,8 @@ use mathlib.Core.List.{List, [], _∷_, _++_, map}
 use Prim.Native.Nat.{ℕ, zero, suc, _+_}
 use Rattle.word.specs.Choice.{on, pick}
 use Rattle.word.specs.Word.{wordBits, bits}
-use Rattle.machine.specs.Instruction.{flag}
-use Rattle.reference.specs.Address.{firstAddress}
+use Rattle.machine_state.specs.Instruction.{flag}
+use Rattle.machine_reference.specs.Address.{firstAddress}
 use Rattle.characters.specs.Ascii.{ascii}
 use Rattle.page.specs.Text.{octal}
 use Rattle.desk_mnemonics.specs.Mnemonics.{names, namesOf, spaced, mnemonic}

@@ -12,8 +12,8 @@ use lib.Seq.{take-suc, take-all}
 use borrow.Author.Tests.{leb-true}
 use Rattle.laws.proofs.Joined.{and-left, and-right}
 use Rattle.word.specs.Choice.{on, pick}
-use Rattle.machine.specs.Instruction.{op, ib}
-use Rattle.reference.specs.Address.{firstAddress}
+use Rattle.machine_state.specs.Instruction.{op, ib}
+use Rattle.machine_reference.specs.Address.{firstAddress}
 use Rattle.characters.specs.Ascii.{ascii, tab}
 use Rattle.page.specs.Text.{octal}
 use Rattle.page.proofs.Numbers.{octal-length}

@@ -6,8 +6,8 @@ use Prim.Native.Nat.{ℕ}
 use lib.Bits.{bitAnd}
 use lib.Dec.{eqb, ltb}
 use Rattle.word.specs.Choice.{pick, on}
-use Rattle.machine.specs.Instruction.{op, ib}
-use Rattle.reference.specs.Address.{firstAddress}
+use Rattle.machine_state.specs.Instruction.{op, ib}
+use Rattle.machine_reference.specs.Address.{firstAddress}
 use Rattle.characters.specs.Ascii.{ascii, byteOf}
 use Rattle.page.specs.Text.{octal}
 use Rattle.desk_mnemonics.specs.declared.Name.{Name}

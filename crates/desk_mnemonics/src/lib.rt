@@ -1,15 +1,15 @@
 // Mnemonics: an instruction by the handbook's names.
 use characters::TAB;
+use machine_reference::address::first_address;
 use page::put_byte;
 use page::put_octal;
 use page::put_text;
-use reference::address::first_address;
 ghost use mathlib.Core.Path.{_≡_};
 ghost use mathlib.Core.List.{[], _∷_};
 ghost use Prim.Native.Nat.{_+_, _<_, _≤_};
 ghost use lib.ListN.{length, getD};
 ghost use Rattle.word.specs.Choice.{pick, on};
-ghost use Rattle.machine.specs.Instruction.{ib};
+ghost use Rattle.machine_state.specs.Instruction.{ib};
 ghost use Rattle.characters.specs.Ascii.{ascii, tab};
 ghost use Rattle.page.specs.Written.{Written};
 ghost use Rattle.desk_mnemonics.specs.Mnemonics.{names, isNamed, namesOf, unnamed, space, parted, operand, mnemonic};

@@ -13,10 +13,10 @@ use Rattle.state.specs.Checks.{checkState}
 use Rattle.state.specs.Acceptable.{Fitting}
 use Rattle.state.specs.declared.Verdict.the-variants.{Fit}
 use Rattle.state.proofs.Accepted.{state-sound, sound-state}
-use Rattle.machine.specs.declared.Machine.{Machine}
-use Rattle.machine.specs.State.{start, Good}
-use Rattle.machine.specs.Registers.{widths, values}
-use Rattle.machine.proofs.Places.{by-register, width-le}
+use Rattle.machine_state.specs.declared.Machine.{Machine}
+use Rattle.machine_state.specs.State.{start, Good}
+use Rattle.machine_state.specs.Registers.{widths, values}
+use Rattle.machine_state.proofs.Places.{by-register, width-le}
 
 -- no register is wider than 16 bits
 pub widths-small : (k : ℕ) → getD widths k 0 ≤ widest

@@ -7,12 +7,12 @@ use Rattle.state.specs.Checks.{checkState}
 use Rattle.state.specs.declared.Reason.{Reason}
 use Rattle.state.specs.declared.Refusal.{Refusal}
 use Rattle.state.specs.declared.Verdict.the-variants.{Fit, Unfit}
-use Rattle.machine.specs.declared.Machine.{Machine}
+use Rattle.machine_state.specs.declared.Machine.{Machine}
 use Rattle.emulator.specs.declared.Answer.{Answer}
 use Rattle.emulator.specs.declared.Answer.the-variants.{Ran, Refused}
-use Rattle.machine.specs.State.{start, registers}
-use Rattle.machine.specs.Registers.{widths, values}
-use Rattle.pdp8.specs.Run.{Run, run}
+use Rattle.machine_state.specs.State.{start, registers}
+use Rattle.machine_state.specs.Registers.{widths, values}
+use Rattle.machine_run.specs.Run.{Run, run}
 
 -- everything that a caller finds after the call, in document 01's numbers
 pub record Report : Type 0 where

@@ -1,6 +1,6 @@
 // The emulator's entry: any memory, registers and budget.
-use machine::Machine;
-use machine::Processor;
+use machine_state::Machine;
+use machine_state::Processor;
 use state::Reason;
 use state::Refusal;
 use state::Verdict;
@@ -8,10 +8,10 @@ ghost use mathlib.Core.Path.{_≡_};
 ghost use Rattle.word.specs.Choice.{on, pick};
 ghost use Rattle.state.specs.Checks.{checkState};
 ghost use Rattle.state.specs.declared.Reason.the-variants.{Halted, Spent};
-ghost use Rattle.machine.specs.State.{start, Good};
-ghost use Rattle.machine.specs.Processor.{narrowed, Narrow};
-ghost use Rattle.machine.specs.Registers.{values, widths};
-ghost use Rattle.pdp8.specs.Run.{run};
+ghost use Rattle.machine_state.specs.State.{start, Good};
+ghost use Rattle.machine_state.specs.Processor.{narrowed, Narrow};
+ghost use Rattle.machine_state.specs.Registers.{values, widths};
+ghost use Rattle.machine_run.specs.Run.{run};
 ghost use Rattle.emulator.specs.Emulate.{report, finished as finishedRun, emulate as emulation};
 
 // The emulator's answer: the registers, reason and steps of a run, or why there was none.
@@ -24,8 +24,8 @@ pub enum Answer {
 fn checked(memory: &[u16], m: Machine, budget: u64) -> Verdict
     ensures { λ r. ⌜ r ≡ checkState widths (values m) (now (memory .entry)) budget ⌝ }
 {
-    let widths = machine::registers::widths();
-    let values = machine::registers::values_of(m);
+    let widths = machine_state::registers::widths();
+    let values = machine_state::registers::values_of(m);
     state::check_state(memory, &widths, &values, budget)
 }
 
@@ -74,7 +74,7 @@ fn finished(memory: &mut [u16], m: Machine, budget: u64) -> Answer
     requires { ⌜ Good (start m (now memory)) ⌝ }
     ensures { λ r. ⌜ report m r (now (memory .exit)) ≡ finishedRun (run budget (start m (now (memory .entry)))) ⌝ }
 {
-    let end = pdp8::run::run(memory, opened(m), budget);
+    let end = machine_run::run::run(memory, opened(m), budget);
     let p = end.processor;
     Answer::Ran(closed(p), reason(p.run), end.steps)
 }

@@ -25,34 +25,34 @@ use Rattle.state.specs.declared.Verdict.the-variants.{Fit, Unfit}
 use Rattle.state.proofs.Accepted.{row-list-long, both-fit, state-sound}
 use Rattle.text_limits.specs.Limits.{mostRows, mostRegisters}
 use Rattle.characters.specs.Named.{Named, find}
-use Rattle.names.specs.Dictionaries.{entries}
+use Rattle.text_names.specs.Dictionaries.{entries}
 use Rattle.laws.proofs.Joined.{and-left}
 use Rattle.laws.proofs.Tests.{by-test}
-use Rattle.bit_parts.specs.References.{widthIn}
-use Rattle.names.proofs.Entries.{entries-length}
-use Rattle.bit_parts.proofs.Listed.{width-is}
-use Rattle.code.proofs.Formed.{register-width}
-use Rattle.declaration.specs.Rows.{Description}
-use Rattle.declaration.specs.Faults.{numberOf}
-use Rattle.declaration.specs.declared.faults.Fault.{Fault}
-use Rattle.row_table.specs.RowTable.{rowCells}
-use Rattle.description.specs.declared.reader.Findings.{Findings}
-use Rattle.description.specs.declared.reader.Verdict as verdict
-use Rattle.description.specs.declared.reader.Verdict.the-variants.{Accepted, Refused}
-use Rattle.row.specs.Cells as row
-use Rattle.description.specs.Description.{runName, readText}
-use Rattle.description.specs.Formed.{Formed}
-use Rattle.description.specs.Stored.{judged, Leaves}
-use Rattle.description.proofs.Texts.{rowsOf, leaves-is, leaves-rows}
-use Rattle.description.proofs.Formed.{accepted-keeps}
-use Rattle.value.specs.Value.{State}
-use Rattle.value.specs.Fitting as fitting
-use Rattle.value.specs.Words.{codePlaces}
-use Rattle.value.proofs.Widths.{width-of}
-use Rattle.cycles.specs.Run.{Run, running, run}
-use Rattle.cycles.specs.declared.run.Course as course
-use Rattle.cycles.specs.Stored.{runAt, coursing, Coursed}
-use Rattle.cycles.proofs.TableRuns.{tables-run}
+use Rattle.text_bit_parts.specs.References.{widthIn}
+use Rattle.text_names.proofs.Entries.{entries-length}
+use Rattle.text_bit_parts.proofs.Listed.{width-is}
+use Rattle.text_code.proofs.Formed.{register-width}
+use Rattle.text_declaration.specs.Rows.{Description}
+use Rattle.text_declaration.specs.Faults.{numberOf}
+use Rattle.text_declaration.specs.declared.faults.Fault.{Fault}
+use Rattle.text_row_table.specs.RowTable.{rowCells}
+use Rattle.text_description.specs.declared.reader.Findings.{Findings}
+use Rattle.text_description.specs.declared.reader.Verdict as verdict
+use Rattle.text_description.specs.declared.reader.Verdict.the-variants.{Accepted, Refused}
+use Rattle.text_rows.specs.Cells as row
+use Rattle.text_description.specs.Description.{runName, readText}
+use Rattle.text_description.specs.Formed.{Formed}
+use Rattle.text_description.specs.Stored.{judged, Leaves}
+use Rattle.text_description.proofs.Texts.{rowsOf, leaves-is, leaves-rows}
+use Rattle.text_description.proofs.Formed.{accepted-keeps}
+use Rattle.rows_value.specs.Value.{State}
+use Rattle.rows_value.specs.Fitting as fitting
+use Rattle.rows_value.specs.Words.{codePlaces}
+use Rattle.rows_value.proofs.Widths.{width-of}
+use Rattle.rows_cycles.specs.Run.{Run, running, run}
+use Rattle.rows_cycles.specs.declared.run.Course as course
+use Rattle.rows_cycles.specs.Stored.{runAt, coursing, Coursed}
+use Rattle.rows_cycles.proofs.TableRuns.{tables-run}
 use Rattle.evaluator.specs.Evaluate.{Report, refused, finished, widthsOf, check, evaluateOf, evaluate, outcomeOf, report}
 use Rattle.evaluator.specs.declared.Outcome.the-variants.{Ran}
 use Rattle.evaluator.specs.Padded.{widthAt, padded, checkPadded}

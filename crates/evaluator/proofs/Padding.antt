@@ -14,7 +14,7 @@ use Rattle.state.specs.Refusals.{orElse}
 use Rattle.state.specs.Checks.{checkState}
 use Rattle.state.specs.declared.Verdict.{Verdict}
 use Rattle.text_limits.specs.Limits.{mostRegisters}
-use Rattle.names.specs.declared.Dictionary.{Dictionary}
+use Rattle.text_names.specs.declared.Dictionary.{Dictionary}
 use Rattle.laws.proofs.Tests.{by-test}
 use Rattle.evaluator.specs.Padded.{widthAt, widthsFrom, padded, checkPadded}
 

@@ -9,14 +9,14 @@ use Rattle.state.specs.Checks.{checkState, checkRowList}
 use Rattle.state.specs.declared.Verdict.{Verdict}
 use Rattle.state.specs.declared.Verdict.the-variants.{Fit, Unfit}
 use Rattle.characters.specs.Named.{Named}
-use Rattle.declaration.specs.Rows.{Description}
-use Rattle.declaration.specs.Faults.{numberOf}
-use Rattle.description.specs.Description as text
-use Rattle.description.specs.Description.{accepted, turnedDown, readText}
+use Rattle.text_declaration.specs.Rows.{Description}
+use Rattle.text_declaration.specs.Faults.{numberOf}
+use Rattle.text_description.specs.Description as text
+use Rattle.text_description.specs.Description.{accepted, turnedDown, readText}
 use Rattle.evaluator.specs.declared.Answer.{Answer}
 use Rattle.evaluator.specs.declared.Outcome.{Outcome}
 use Rattle.evaluator.specs.declared.Outcome.the-variants.{Ran, Unread, Refused}
-use Rattle.cycles.specs.Run.{Run, run}
+use Rattle.rows_cycles.specs.Run.{Run, run}
 
 -- everything that a caller finds after the call, in document 01's numbers
 pub record Report : Type 0 where

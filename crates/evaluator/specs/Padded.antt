@@ -9,7 +9,7 @@ use Rattle.word.specs.Choice.{pick}
 use Rattle.state.specs.Checks.{checkState}
 use Rattle.state.specs.declared.Verdict.{Verdict}
 use Rattle.text_limits.specs.Limits.{mostRegisters}
-use Rattle.names.specs.declared.Dictionary.{Dictionary}
+use Rattle.text_names.specs.declared.Dictionary.{Dictionary}
 
 -- the width of the register at a place of a dictionary
 abbrev pub widthAt : Dictionary → ℕ → ℕ

@@ -1,8 +1,8 @@
 // What is tried of a state before its run: 11 to 15.
-use names::Dictionary;
+use rows_store::Registers;
 use state::Verdict;
-use store::Registers;
 use text_limits::MOST_REGISTERS;
+use text_names::Dictionary;
 ghost use mathlib.Core.Path.{_≡_};
 ghost use Prim.Native.Nat.{ℕ, _≤_};
 ghost use Rattle.word.specs.Word.{widest};
@@ -15,7 +15,7 @@ fn width_at(d: Dictionary, place: usize) -> u64
     ensures { λ w. ⌜ w ≡ widthAt d place ⌝ }
 {
     if place < d.count {
-        names::number_of(d, place) as u64
+        text_names::number_of(d, place) as u64
     } else {
         0
     }

@@ -2,23 +2,23 @@
 mod checks;
 mod list;
 
-use code::CODE_PLACES;
-use cycles::run;
-use declaration::faults::Fault;
-use description::reader;
-use plan::PLAN_PLACES;
-use row_table::TABLE_CELLS;
+use rows_cycles::run;
+use rows_plan::PLAN_PLACES;
+use rows_store::Registers;
 use state::Reason;
 use state::Refusal;
 use state::Verdict;
-use store::Registers;
+use text_code::CODE_PLACES;
+use text_declaration::faults::Fault;
+use text_description::reader;
 use text_limits::MOST_ROWS;
+use text_row_table::TABLE_CELLS;
 ghost use mathlib.Core.Path.{_≡_};
 ghost use Prim.Native.Nat.{_≤_};
 ghost use lib.ListN.{length};
 ghost use Rattle.state.specs.Limits.{memoryWords};
 ghost use Rattle.text_limits.specs.Limits.{mostRows};
-ghost use Rattle.cycles.specs.Stored.{coursing};
+ghost use Rattle.rows_cycles.specs.Stored.{coursing};
 ghost use Rattle.evaluator.specs.Evaluate.{report, finished, evaluate as evaluation};
 
 // What came of a call.
@@ -54,7 +54,7 @@ fn run_rows(
         (now (rows .entry)) ⌝ }
 {
     let mut plan = [0u16; PLAN_PLACES];
-    plan::plan_rows(code, table, count, &mut plan);
+    rows_plan::plan_rows(code, table, count, &mut plan);
     let mut acted = [0u8; MOST_ROWS];
     let end = run::run(
         &plan,
@@ -105,7 +105,7 @@ pub fn evaluate(
                 },
                 Verdict::Fit => {
                     let count = read.rows;
-                    let place = names::place_of(text, known, b"RUN");
+                    let place = text_names::place_of(text, known, b"RUN");
                     run_rows(&code, &table, count, place, registers, memory, budget, rows)
                 }
             }

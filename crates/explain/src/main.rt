@@ -1,12 +1,12 @@
 // The explanation of standard input: reads it in chunks and writes what the library makes of them.
-use inquiry::Progress;
-use inquiry::Scanner;
+use desk_inquiry::Progress;
+use desk_inquiry::Scanner;
+use desk_run_lines::PAGE_BYTES;
 use libc::STDIN_FILENO;
 use libc::STDOUT_FILENO;
-use run_lines::PAGE_BYTES;
 use state::MEMORY_WORDS;
-ghost use Rattle.image.specs.Scan.{Reached};
-ghost use Rattle.inquiry.specs.Scan.{asking, kept};
+ghost use Rattle.desk_image.specs.Scan.{Reached};
+ghost use Rattle.desk_inquiry.specs.Scan.{asking, kept};
 
 // Reads once.
 fn read_some(memory: &mut [u16; MEMORY_WORDS], s: Scanner) -> Progress
@@ -15,14 +15,14 @@ fn read_some(memory: &mut [u16; MEMORY_WORDS], s: Scanner) -> Progress
 {
     let mut buffer = io::large_buffer();
     let got = libc::read(STDIN_FILENO, &mut buffer);
-    inquiry::after_read(memory, s, got, &buffer)
+    desk_inquiry::after_read(memory, s, got, &buffer)
 }
 
 // Reads to the end. A proved loop has to end, so it counts its reads down, from a number that no run uses up.
 fn read_all(memory: &mut [u16; MEMORY_WORDS]) -> Progress
     ensures { λ r. ⌜ Reached asking (kept (r .scanner) (now (memory .exit))) ⌝ }
 {
-    let first = inquiry::begin(memory);
+    let first = desk_inquiry::begin(memory);
     let mut last = read_some(memory, first);
     let mut left = u64::MAX;
     while left > 0 {
@@ -45,7 +45,7 @@ fn main() {
     }
     let mut page = [0u8; PAGE_BYTES];
     let s = last.scanner;
-    let n = explanation::explanation(&memory, s, &mut page);
+    let n = desk_explanation::explanation(&memory, s, &mut page);
     if !io::write_all(STDOUT_FILENO, &page[..n]) {
         os::fail(b"explain: write");
     }

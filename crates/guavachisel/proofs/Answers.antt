@@ -6,10 +6,10 @@ use Prim.Native.Nat.{ℕ}
 use Rattle.state.specs.Refusals.{numberOf, placeOf, reasonNumber}
 use Rattle.state.specs.declared.Reason.{Reason}
 use Rattle.state.specs.declared.Refusal.{Refusal}
-use Rattle.machine.specs.declared.Machine.{Machine}
+use Rattle.machine_state.specs.declared.Machine.{Machine}
 use Rattle.emulator.specs.declared.Answer.{Answer}
 use Rattle.emulator.specs.declared.Answer.the-variants.{Ran, Refused}
-use Rattle.machine.specs.Registers.{values, machineOf}
+use Rattle.machine_state.specs.Registers.{values, machineOf}
 use Rattle.emulator.specs.Emulate.{Report, report, emulate}
 use Rattle.guavachisel.specs.Outcome.{places, ran, refused}
 use Rattle.guavachisel.specs.Emulation.{outcomeOf, Emulated}

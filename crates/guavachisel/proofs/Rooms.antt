@@ -10,7 +10,7 @@ use borrow.Author.Tests.{eq-eqb, ne-eqb, le-leb, lt-leb}
 use lib.ListN.{length, drop}
 use lib.Seq.{sets, sets-eq}
 use Rattle.word.specs.Choice.{pick}
-use Rattle.pdp8_rows.specs.Text.{shippedText}
+use Rattle.shipped_rows.specs.Text.{shippedText}
 use Rattle.guavachisel.specs.Outcome.{places, answered}
 use Rattle.guavachisel.specs.Shipping.{plain, shippedOf, written, Shipped}
 

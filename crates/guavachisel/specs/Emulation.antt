@@ -3,7 +3,7 @@
 use mathlib.Core.Path.{_≡_}
 use mathlib.Core.List.{List}
 use Prim.Native.Nat.{ℕ}
-use Rattle.machine.specs.Registers.{values, machineOf}
+use Rattle.machine_state.specs.Registers.{values, machineOf}
 use Rattle.emulator.specs.Emulate.{Report, emulate}
 use Rattle.guavachisel.specs.declared.outcome.Outcome.{Outcome}
 use Rattle.guavachisel.specs.Outcome.{places}

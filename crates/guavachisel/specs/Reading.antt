@@ -1,7 +1,7 @@
 -- What `guavachisel_read` yields to a C caller: "The answer is the number and line."
 -- Assumes nothing.
-use Rattle.declaration.specs.Faults.{numberOf}
-use Rattle.description.specs.Description.{Acceptance, accepted, turnedDown}
+use Rattle.text_declaration.specs.Faults.{numberOf}
+use Rattle.text_description.specs.Description.{Acceptance, accepted, turnedDown}
 use Rattle.guavachisel.specs.declared.outcome.Outcome.{Outcome}
 use Rattle.guavachisel.specs.Outcome.{silent, refused}
 

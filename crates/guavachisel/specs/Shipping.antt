@@ -6,7 +6,7 @@ use Prim.Native.Nat.{ℕ}
 use lib.Dec.{eqb, leb}
 use lib.ListN.{length, drop}
 use Rattle.word.specs.Choice.{pick}
-use Rattle.pdp8_rows.specs.Text.{shippedText}
+use Rattle.shipped_rows.specs.Text.{shippedText}
 use Rattle.guavachisel.specs.Outcome.{places, answered}
 
 -- "GUAVACHISEL_PLAIN": the number of the description of the machine without devices, in one field

@@ -2,7 +2,7 @@
 use crate::outcome;
 use crate::outcome::OUTCOME_PLACES;
 use emulator::Answer;
-use machine::registers::MACHINE_REGISTERS;
+use machine_state::registers::MACHINE_REGISTERS;
 ghost use Rattle.guavachisel.specs.Emulation.{Emulated};
 
 // Runs the emulator on a caller's memory and registers.
@@ -15,9 +15,13 @@ pub extern "C" fn guavachisel_emulate(
 )
     ensures { λ r. ⌜ Emulated (now (memory .entry)) (now (registers .entry)) budget (now (memory .exit)) (now (registers .exit)) (now (outcome .exit)) ⌝ }
 {
-    match emulator::emulate(memory, machine::registers::machine_of(*registers), budget) {
+    match emulator::emulate(
+        memory,
+        machine_state::registers::machine_of(*registers),
+        budget,
+    ) {
         Answer::Ran(m, why, steps) => {
-            *registers = machine::registers::values_of(m);
+            *registers = machine_state::registers::values_of(m);
             *outcome = outcome::ran(steps, why, 0);
         }
         Answer::Refused(why) => {

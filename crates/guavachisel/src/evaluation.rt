@@ -2,7 +2,7 @@
 use crate::outcome;
 use crate::outcome::OUTCOME_PLACES;
 use evaluator::Outcome;
-use store::Registers;
+use rows_store::Registers;
 use text_limits::MOST_REGISTERS;
 ghost use mathlib.Core.Path.{_≡_};
 ghost use mathlib.Core.List.{List};

@@ -1,10 +1,10 @@
 // The numbers by which C callers know reasons, refusals and faults.
-use declaration::faults::Fault;
 use state::Reason;
 use state::Refusal;
+use text_declaration::faults::Fault;
 ghost use mathlib.Core.Path.{_≡_};
 ghost use Rattle.state.specs.Refusals.{reasonNumber, numberOf, placeOf};
-ghost use Rattle.declaration.specs.Faults.{numberOf as faultNumber};
+ghost use Rattle.text_declaration.specs.Faults.{numberOf as faultNumber};
 
 // A reason's number.
 pub fn reason_number(reason: Reason) -> u64

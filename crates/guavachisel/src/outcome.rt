@@ -1,11 +1,11 @@
 // What every entry reports: guavachisel_outcome of include/guavachisel.h.
 use crate::numbers;
-use declaration::faults::Fault;
 use state::Reason;
 use state::Refusal;
+use text_declaration::faults::Fault;
 ghost use mathlib.Core.Path.{_≡_};
 ghost use Rattle.state.specs.Refusals.{reasonNumber, numberOf, placeOf};
-ghost use Rattle.declaration.specs.Faults.{numberOf as faultNumber};
+ghost use Rattle.text_declaration.specs.Faults.{numberOf as faultNumber};
 ghost use Rattle.guavachisel.specs.Outcome.{places as placesOf, ran as ranOutcome, refused as refusedOutcome, answered as answeredOutcome};
 
 // The numbers that a caller's outcome has places for.

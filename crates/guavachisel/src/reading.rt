@@ -1,11 +1,11 @@
 // The reader for C callers: guavachisel_read of include/guavachisel.h.
 use crate::outcome;
 use crate::outcome::OUTCOME_PLACES;
-use code::CODE_PLACES;
-use description::reader::Verdict;
-use row_table::TABLE_CELLS;
+use text_code::CODE_PLACES;
+use text_description::reader::Verdict;
+use text_row_table::TABLE_CELLS;
 ghost use mathlib.Core.Path.{_≡_};
-ghost use Rattle.description.specs.Description.{readText};
+ghost use Rattle.text_description.specs.Description.{readText};
 ghost use Rattle.guavachisel.specs.Outcome.{places};
 ghost use Rattle.guavachisel.specs.Reading.{outcomeOf};
 
@@ -16,7 +16,7 @@ pub extern "C" fn guavachisel_read(text: &[u8], outcome: &mut [u64; OUTCOME_PLAC
 {
     let mut code = [0u16; CODE_PLACES];
     let mut table = [0u16; TABLE_CELLS];
-    let findings = description::reader::read(text, &mut code, &mut table);
+    let findings = text_description::reader::read(text, &mut code, &mut table);
     let verdict = findings.verdict;
     match verdict {
         Verdict::Accepted => {

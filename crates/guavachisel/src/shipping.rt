@@ -27,7 +27,7 @@ pub extern "C" fn guavachisel_shipped(
     ensures { λ r. ⌜ Shipped which (now (text .entry)) (now (text .exit)) (now (outcome .exit)) ⌝ }
 {
     if which == PLAIN {
-        let description = pdp8_rows::shipped_text();
+        let description = shipped_rows::shipped_text();
         write(text, &description);
         *outcome = outcome::answered(description.len() as u64);
     } else {

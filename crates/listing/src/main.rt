@@ -1,11 +1,11 @@
 // The day listing of standard input: reads it in chunks and writes what the library makes of them.
-use day_listing::PAGE_BYTES;
-use image::Progress;
-use image::Scanner;
+use desk_day_listing::PAGE_BYTES;
+use desk_image::Progress;
+use desk_image::Scanner;
 use libc::STDIN_FILENO;
 use libc::STDOUT_FILENO;
 use state::MEMORY_WORDS;
-ghost use Rattle.image.specs.Scan.{words, kept, Reached};
+ghost use Rattle.desk_image.specs.Scan.{words, kept, Reached};
 
 // Reads once.
 fn read_some(memory: &mut [u16; MEMORY_WORDS], s: Scanner) -> Progress
@@ -14,14 +14,14 @@ fn read_some(memory: &mut [u16; MEMORY_WORDS], s: Scanner) -> Progress
 {
     let mut buffer = io::large_buffer();
     let got = libc::read(STDIN_FILENO, &mut buffer);
-    image::after_read(memory, s, got, &buffer)
+    desk_image::after_read(memory, s, got, &buffer)
 }
 
 // Reads to the end. A proved loop has to end, so it counts its reads down, from a number that no run uses up.
 fn read_all(memory: &mut [u16; MEMORY_WORDS]) -> Progress
     ensures { λ r. ⌜ Reached words (kept (r .scanner) (now (memory .exit))) ⌝ }
 {
-    let first = image::begin(memory);
+    let first = desk_image::begin(memory);
     let mut last = read_some(memory, first);
     let mut left = u64::MAX;
     while left > 0 {
@@ -44,7 +44,7 @@ fn main() {
     }
     let mut page = [0u8; PAGE_BYTES];
     let s = last.scanner;
-    let n = day_listing::listing(&memory, s, &mut page);
+    let n = desk_day_listing::listing(&memory, s, &mut page);
     if !io::write_all(STDOUT_FILENO, &page[..n]) {
         os::fail(b"listing: write");
     }

@@ -8,22 +8,22 @@ use Rattle.state.specs.Checks.{checkState}
 use Rattle.state.specs.declared.Refusal.{Refusal}
 use Rattle.state.specs.declared.Verdict.{Verdict}
 use Rattle.state.specs.declared.Verdict.the-variants.{Fit, Unfit}
-use Rattle.machine.specs.declared.Machine.{Machine}
-use Rattle.machine.specs.State.{start}
-use Rattle.machine.specs.Registers.{widths, values}
-use Rattle.pdp8.specs.Run as steps
+use Rattle.machine_state.specs.declared.Machine.{Machine}
+use Rattle.machine_state.specs.State.{start}
+use Rattle.machine_state.specs.Registers.{widths, values}
+use Rattle.machine_run.specs.Run as steps
 use Rattle.emulator.specs.Emulate as emulator
 use Rattle.emulator.specs.Emulate.{emulate}
-use Rattle.description.specs.Description as text
-use Rattle.value.specs.Value as rows
-use Rattle.cycles.specs.Run as cycles
+use Rattle.text_description.specs.Description as text
+use Rattle.rows_value.specs.Value as rows
+use Rattle.rows_cycles.specs.Run as cycles
 use Rattle.evaluator.specs.Evaluate as evaluator
 use Rattle.evaluator.specs.Evaluate.{evaluate, evaluateOf, check}
-use Rattle.pdp8_rows.specs.Text.{shippedText}
-use Rattle.pdp8_rows.specs.Shipped.{shipped}
+use Rattle.shipped_rows.specs.Text.{shippedText}
+use Rattle.shipped_rows.specs.Shipped.{shipped}
 use Rattle.shipped.specs.Claim.{machinePart, Start, Same, cyclesOf, Claim}
-use Rattle.pdp8_rows.proofs.Accepted.{shipped-read}
-use Rattle.pdp8_rows.proofs.Runs.{Alike, runs-alike}
+use Rattle.shipped_rows.proofs.Accepted.{shipped-read}
+use Rattle.shipped_rows.proofs.Runs.{Alike, runs-alike}
 use Rattle.shipped.proofs.Starts.{workOf, start-in-places, start-good, work-fits, emulator-passes, evaluator-passes}
 
 -- an answer by a check that found nothing

@@ -8,23 +8,23 @@ use Rattle.word.specs.Choice.{on, pick}
 use Rattle.word.proofs.Choice.{case-false}
 use Rattle.state.specs.declared.Reason.{Reason}
 use Rattle.state.specs.declared.Reason.the-variants.{Halted, Spent}
-use Rattle.machine.specs.declared.Machine.{Machine}
-use Rattle.machine.specs.State.{start}
-use Rattle.pdp8.specs.Run as steps
-use Rattle.pdp8.proofs.Runs.{halted-at-entry}
+use Rattle.machine_state.specs.declared.Machine.{Machine}
+use Rattle.machine_state.specs.State.{start}
+use Rattle.machine_run.specs.Run as steps
+use Rattle.machine_run.proofs.Runs.{halted-at-entry}
 use Rattle.emulator.specs.Emulate as emulator
 use Rattle.emulator.specs.Emulate.{emulate}
-use Rattle.declaration.specs.Rows.{Description}
-use Rattle.value.specs.Value as rows
-use Rattle.cycles.specs.Cycle.{cycle}
-use Rattle.cycles.specs.Run as cycles
-use Rattle.cycles.specs.Run.{running}
+use Rattle.text_declaration.specs.Rows.{Description}
+use Rattle.rows_value.specs.Value as rows
+use Rattle.rows_cycles.specs.Cycle.{cycle}
+use Rattle.rows_cycles.specs.Run as cycles
+use Rattle.rows_cycles.specs.Run.{running}
 use Rattle.evaluator.specs.Evaluate as evaluator
 use Rattle.evaluator.specs.Evaluate.{evaluate}
-use Rattle.pdp8_rows.specs.Text.{shippedText}
-use Rattle.pdp8_rows.specs.Shipped.{shipped}
+use Rattle.shipped_rows.specs.Text.{shippedText}
+use Rattle.shipped_rows.specs.Shipped.{shipped}
 use Rattle.shipped.specs.Claim.{Start, Claim}
-use Rattle.pdp8_rows.proofs.Runs.{running-in-places}
+use Rattle.shipped_rows.proofs.Runs.{running-in-places}
 use Rattle.shipped.proofs.Starts.{workOf, start-in-places}
 use Rattle.shipped.proofs.Agree.{runs-agree}
 

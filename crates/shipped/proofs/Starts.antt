@@ -14,18 +14,18 @@ use Rattle.state.specs.Checks.{checkState}
 use Rattle.state.specs.Limits.{budgetLimit, rowPlaces}
 use Rattle.state.specs.declared.Verdict.the-variants.{Fit as Passed}
 use Rattle.state.proofs.Accepted.{sound-state, zeros}
-use Rattle.machine.specs.declared.Machine.{Machine}
-use Rattle.machine.specs.State.{start, Good}
-use Rattle.machine.specs.Registers.{machineRegisters, widths, values}
+use Rattle.machine_state.specs.declared.Machine.{Machine}
+use Rattle.machine_state.specs.State.{start, Good}
+use Rattle.machine_state.specs.Registers.{machineRegisters, widths, values}
 use Rattle.emulator.proofs.Starts.{good-checked}
-use Rattle.value.specs.Value as rows
+use Rattle.rows_value.specs.Value as rows
 use Rattle.evaluator.specs.Evaluate.{widthsOf, check}
-use Rattle.declaration.specs.Rows.{Description}
-use Rattle.pdp8_rows.specs.Shipped.{shipped}
+use Rattle.text_declaration.specs.Rows.{Description}
+use Rattle.shipped_rows.specs.Shipped.{shipped}
 use Rattle.shipped.specs.Claim.{Start}
-use Rattle.pdp8_rows.proofs.Tree.{tree}
-use Rattle.pdp8_rows.proofs.Accepted.{shipped-is}
-use Rattle.pdp8_rows.proofs.Places.{Work, Fit, inPlaces}
+use Rattle.shipped_rows.proofs.Tree.{tree}
+use Rattle.shipped_rows.proofs.Accepted.{shipped-is}
+use Rattle.shipped_rows.proofs.Places.{Work, Fit, inPlaces}
 
 -- "Machine registers, in this order, which begins the shipped description too"
 pub shipped-begins : take (length machineRegisters) (shipped .registers) ≡ machineRegisters

@@ -11,17 +11,17 @@ use Rattle.state.specs.declared.Verdict.{Verdict}
 use Rattle.state.specs.declared.Verdict.the-variants.{Fit, Unfit}
 use Rattle.state.proofs.Accepted.{row-list-long, both-fit, state-sound}
 use Rattle.state.proofs.Numbers.{numbered}
-use Rattle.machine.specs.declared.Machine.{Machine}
-use Rattle.machine.specs.Registers.{values}
+use Rattle.machine_state.specs.declared.Machine.{Machine}
+use Rattle.machine_state.specs.Registers.{values}
 use Rattle.emulator.specs.Emulate as emulator
 use Rattle.emulator.specs.Emulate.{emulate}
 use Rattle.text_limits.specs.Limits.{mostRegisters}
-use Rattle.description.specs.Description as text
+use Rattle.text_description.specs.Description as text
 use Rattle.evaluator.specs.Evaluate.{Report, refused, finished, widthsOf, check, evaluateOf, evaluate}
-use Rattle.pdp8_rows.specs.Text.{shippedText}
-use Rattle.pdp8_rows.specs.Shipped.{shipped}
+use Rattle.shipped_rows.specs.Text.{shippedText}
+use Rattle.shipped_rows.specs.Shipped.{shipped}
 use Rattle.shipped.specs.Claim.{machinePart, Start, Same, cyclesOf, Claim, Together}
-use Rattle.pdp8_rows.proofs.Accepted.{shipped-read}
+use Rattle.shipped_rows.proofs.Accepted.{shipped-read}
 use Rattle.shipped.proofs.Agree.{runs-agree}
 
 abbrev number : Report → ℕ

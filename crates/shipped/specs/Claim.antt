@@ -7,19 +7,19 @@ use Prim.Native.Nat.{ℕ, _≤_}
 use lib.ListN.{length, take, drop}
 use Rattle.state.specs.Limits.{budgetLimit, rowPlaces}
 use Rattle.state.specs.Acceptable.{Acceptable, Fitting}
-use Rattle.machine.specs.declared.Machine.{Machine}
-use Rattle.machine.specs.State.{start}
-use Rattle.machine.specs.Registers.{machineRegisters, values}
-use Rattle.pdp8.specs.Run as steps
+use Rattle.machine_state.specs.declared.Machine.{Machine}
+use Rattle.machine_state.specs.State.{start}
+use Rattle.machine_state.specs.Registers.{machineRegisters, values}
+use Rattle.machine_run.specs.Run as steps
 use Rattle.emulator.specs.Emulate as emulator
 use Rattle.emulator.specs.Emulate.{emulate}
 use Rattle.text_limits.specs.Limits.{mostRegisters}
-use Rattle.description.specs.Description.{accepted, readText}
-use Rattle.cycles.specs.Run as cycles
+use Rattle.text_description.specs.Description.{accepted, readText}
+use Rattle.rows_cycles.specs.Run as cycles
 use Rattle.evaluator.specs.Evaluate as evaluator
 use Rattle.evaluator.specs.Evaluate.{evaluate, widthsOf}
-use Rattle.pdp8_rows.specs.Text.{shippedText}
-use Rattle.pdp8_rows.specs.Shipped.{shipped}
+use Rattle.shipped_rows.specs.Text.{shippedText}
+use Rattle.shipped_rows.specs.Shipped.{shipped}
 
 -- the machine registers among the evaluator's places: "in this order, which begins the shipped description too"
 abbrev pub machinePart : List ℕ → List ℕ

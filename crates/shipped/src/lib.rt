@@ -1,10 +1,10 @@
 // Emulator and evaluator beside each other, on the shipped description of the PDP-8.
-use machine::Machine;
-use store::Registers;
+use machine_state::Machine;
+use rows_store::Registers;
 ghost use mathlib.Core.Path.{_≡_};
 ghost use Rattle.evaluator.specs.Evaluate.{report, evaluate};
 ghost use Rattle.emulator.specs.Emulate as emulation;
-ghost use Rattle.pdp8_rows.specs.Text.{shippedText};
+ghost use Rattle.shipped_rows.specs.Text.{shippedText};
 ghost use Rattle.shipped.specs.Claim.{Together};
 
 // What the two programs answer.
@@ -22,7 +22,7 @@ fn evaluate_shipped(
 ) -> evaluator::Answer
     ensures { λ r. ⌜ report r (now (memory .exit)) (now (rows .exit)) ≡ evaluate shippedText (registers .values) (now (memory .entry)) budget (now (rows .entry)) ⌝ }
 {
-    let text = pdp8_rows::shipped_text();
+    let text = shipped_rows::shipped_text();
     evaluator::evaluate(&text, memory, registers, budget, rows)
 }
 

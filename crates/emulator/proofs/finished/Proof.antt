@@ -1,12 +1,12 @@
 -- `emulator::finished`: the run starts from the caller's registers and ends narrow, so that they can be handed back.
 use mathlib.Core.Path.{sym, ap, _∙_, subst}
 use denote.Ref.{now}
-use Rattle.machine.specs.declared.Machine.{Machine}
-use Rattle.machine.specs.State.{start, Good}
-use Rattle.pdp8.specs.Run.{Run, run}
+use Rattle.machine_state.specs.declared.Machine.{Machine}
+use Rattle.machine_state.specs.State.{start, Good}
+use Rattle.machine_run.specs.Run.{Run, run}
 use Rattle.emulator.specs.Emulate.{finished}
-use Rattle.machine.proofs.Keeps.{good-narrow}
-use Rattle.pdp8.proofs.Runs.{run-good}
+use Rattle.machine_state.proofs.Keeps.{good-narrow}
+use Rattle.machine_run.proofs.Runs.{run-good}
 use borrow.Author.Needs.{needs}
 use Rattle.emulator.proofs.finished.Statement.{statement}
 use Rattle.emulator.proofs.finished.Tie as tie

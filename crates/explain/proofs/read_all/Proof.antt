@@ -1,8 +1,8 @@
 -- `explain::read_all`: after each read the scanner and the memory are those of some text. The reads that are left fall.
 use borrow.Author.Needs.{needs}
 use mathlib.Core.List.{[]}
-use Rattle.image.specs.Scan.{Reached}
-use Rattle.inquiry.specs.Scan.{asking, kept}
+use Rattle.desk_image.specs.Scan.{Reached}
+use Rattle.desk_inquiry.specs.Scan.{asking, kept}
 use Rattle.explain.proofs.read_all.Statement.{statement}
 use Rattle.explain.proofs.read_all.Tie as tie
 

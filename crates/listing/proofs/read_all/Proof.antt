@@ -1,7 +1,7 @@
 -- `listing::read_all`: after each read the scanner and the memory are those of some text. The reads that are left fall.
 use borrow.Author.Needs.{needs}
 use mathlib.Core.List.{[]}
-use Rattle.image.specs.Scan.{words, kept, Reached}
+use Rattle.desk_image.specs.Scan.{words, kept, Reached}
 use Rattle.listing.proofs.read_all.Statement.{statement}
 use Rattle.listing.proofs.read_all.Tie as tie
 

@@ -1,6 +1,6 @@
 -- `numbers::fault_number` answers by the case that its definition goes by.
 use mathlib.Core.Path.{sym, ap}
-use Rattle.declaration.specs.Faults.{numberOf}
+use Rattle.text_declaration.specs.Faults.{numberOf}
 use borrow.Author.Needs.{needs}
 use Rattle.guavachisel.proofs.numbers.fault_number.Statement.{statement}
 use Rattle.guavachisel.proofs.numbers.fault_number.Tie as tie

@@ -1,7 +1,7 @@
 -- `guavachisel_read` hands over each case of the reader's verdict.
 use mathlib.Core.Path.{sym, ap, _∙_}
-use Rattle.description.specs.Description.{Acceptance}
-use Rattle.description.proofs.Texts.{leaves-is}
+use Rattle.text_description.specs.Description.{Acceptance}
+use Rattle.text_description.proofs.Texts.{leaves-is}
 use borrow.Author.Needs.{needs}
 use Rattle.guavachisel.specs.Outcome.{places}
 use Rattle.guavachisel.specs.Reading.{outcomeOf}

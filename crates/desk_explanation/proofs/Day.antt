@@ -1,0 +1,77 @@
+-- The explanation of (L); and that an image alone is run as for its day listing, so that its explanation begins with the listing's last line.
+-- Assumes nothing.
+use mathlib.Core.Path.{_≡_, refl, ap}
+use mathlib.Core.List.{List, _++_}
+use Prim.Native.Nat.{ℕ}
+use lib.ListN.{length, drop}
+use Rattle.machine_state.specs.Interrupt.{interruptTest}
+use Rattle.machine_state.specs.declared.Machine.{Machine}
+use Rattle.machine_state.specs.State.{start, registers}
+use Rattle.machine_state.specs.Registers.{machineRegisters, machineOf, values}
+use Rattle.machine_reference.specs.Address.{firstAddress, indexed, effective, afterIndexing}
+use Rattle.machine_reference.specs.Reference.{operation, reference}
+use Rattle.machine_operate.specs.Operate.{changed, rotated, skips, group1, group2, operate}
+use Rattle.machine_run.specs.Step.{execute, step}
+use Rattle.machine_run.specs.Run as steps
+use Rattle.characters.specs.Ascii.{ascii}
+use Rattle.page.specs.Text.{octal, decimalIn, decimal}
+use Rattle.desk_day_listing.specs.Listing as listing
+use Rattle.desk_last_lines.specs.LastLines.{endLine}
+use Rattle.desk_image.specs.Input.{afterLines, clear, firstUnfit}
+use Rattle.characters.specs.Characters as bytes
+use Rattle.characters.specs.Characters.{same}
+use Rattle.text_constants.specs.Constants.{numberAt}
+use Rattle.text_fields.specs.Fields.{lines, field, hasFields}
+use Rattle.characters.specs.Named.{find}
+use Rattle.text_declaration.specs.Rows.{Description}
+use Rattle.rows_cycles.specs.Cycle.{cycleFrom}
+use Rattle.rows_cycles.specs.Run as cycles
+use Rattle.shipped_rows.specs.Text.{shippedText}
+use Rattle.shipped_rows.proofs.Tree.{tree}
+use Rattle.shipped_rows.proofs.Accepted.{shipped-is}
+use Rattle.desk_entry.specs.Lines.{wordEntry, registerEntry, budgetEntry, said, entry}
+use Rattle.desk_inquiry.specs.Input.{ready, entered, asked}
+use Rattle.text_targets.specs.Targets.{passes}
+use Rattle.desk_mnemonics.specs.Mnemonics.{names, namesOf, spaced, mnemonic}
+use Rattle.desk_last_step.specs.LastStep.{lastLine, wordLine, changeLines, lastStep}
+use Rattle.desk_run_lines.specs.Registers.{registerLines, workingValues}
+use Rattle.desk_run_lines.specs.Rows.{rowTexts, atLine, labelLine, rowLine, rowLines}
+use Rattle.desk_explanation.specs.Explanation.{placesOf, told, beforeLast, explained, explanation}
+
+-- what no line gives is as for the day listing: the state of each memory, and the budget
+pub starts-as-listed : (memory : List ℕ) → start (machineOf (ready .registers)) memory ≡ listing.ready memory
+unfolding ready
+starts-as-listed memory = refl
+
+pub budget-as-listed : ready .budget ≡ listing.budget
+unfolding ready
+budget-as-listed = refl
+
+-- what is said of a start by the cycles of a description's rows; by those of the shipped one's tree
+abbrev toldBy : Machine → List ℕ → ℕ → Description → List ℕ
+toldBy m memory budget d =
+    let r = steps.run budget (start m memory) in
+    let before = beforeLast m memory (r .steps) in
+    let c = cycles.run d budget (record { registers = placesOf m; memory = memory }) in
+    endLine (r .steps) (r .reason)
+    ++ lastStep (r .steps) (before .pc) (before .memory) (r .state .memory)
+    ++ registerLines machineRegisters (values (registers (r .state)))
+    ++ registerLines (drop (length machineRegisters) (d .registers)) (workingValues (c .state .registers))
+    ++ rowLines (c .acted)
+
+by-tree : (m : Machine) (memory : List ℕ) (budget : ℕ) → explained m memory budget ≡ toldBy m memory budget tree
+unfolding told explained
+by-tree m memory budget = ap (toldBy m memory budget) shipped-is
+
+-- (L)
+abbrev input : List ℕ
+input = ascii "0200\t7300\n0201\t1204\n0202\t7001\n0203\t7402\n0204\t7777\n"
+
+pub day : explanation input
+    ≡ ascii "end\t4\thalted\nlast\t0203\t7402\tHLT\nLAC\t10000\nPC\t0204\nRUN\t0\nINTERRUPT.ENABLE\t0\nINTERRUPT.REQUEST\t0\nSWITCHES\t0000\n"
+    ++ ascii "i\t7402\nlast.pc\t0203\neadd\t0204\nskip\t0\n"
+    ++ ascii "1\tdo\t1\ti\tM[PC]\n2\tdo\t1\tlast.pc\tPC\n3\tdo\t1\tPC\tPC + 1\n5\tgo\ti<0:2> Eql #7\topr\nat\topr\t35\n35\tgo\ti<3>\tgroup.2\nat\tgroup.2\t48\n"
+    ++ ascii "49\tdo\t1\tskip\t0\n54\tgo\t1\tdecided\nat\tdecided\t59\n62\tdo\ti<10>\tRUN\t0\n63\tgo\t1\tinterrupt\nat\tinterrupt\t65\n"
+    ++ ascii "65\tgo\tNot INTERRUPT.ENABLE\trestart\nat\trestart\t70\n"
+unfolding interruptTest firstAddress indexed effective afterIndexing operation reference changed rotated skips group1 group2 operate execute step steps.runFrom steps.run octal decimalIn decimal endLine clear bytes.run same numberAt lines field hasFields find cycleFrom cycles.runFrom cycles.run shippedText wordEntry registerEntry budgetEntry said entry ready entered afterLines firstUnfit names namesOf spaced mnemonic lastLine wordLine changeLines lastStep passes rowTexts atLine labelLine rowLine rowLines explanation
+day = let q = asked input in by-tree (machineOf (q .registers)) (q .memory) (q .budget)

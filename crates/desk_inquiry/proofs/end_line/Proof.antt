@@ -1,0 +1,62 @@
+-- `inquiry::end_line`: what the bytes of the line say decides.
+use borrow.Author.Needs.{needs}
+use mathlib.Core.Path.{sym, ap, _∙_}
+use Rattle.desk_image.specs.Scan.{atNextLine}
+use Rattle.desk_image.proofs.Scanning.{ends-unfit, ends-fit}
+use Rattle.desk_entry.specs.Lines.{entry, isFit}
+use Rattle.desk_inquiry.specs.Input.{entered}
+use Rattle.desk_inquiry.specs.Scan.{asking, kept, entering}
+use Rattle.desk_inquiry.proofs.end_line.Statement.{statement}
+use Rattle.desk_inquiry.proofs.end_line.Tie as tie
+
+slice-aggregate-part : tie.Need-slice-aggregate-part
+slice-aggregate-part c = search needs
+
+part-requires : tie.Need-part-requires
+part-requires c κs = search needs
+
+entry-of-requires : tie.Need-entry-of-requires
+entry-of-requires c κs = search needs
+
+is-fit-requires : tie.Need-is-fit-requires
+is-fit-requires c κs = search needs
+
+entered-requires : tie.Need-entered-requires
+entered-requires c κs = search needs
+
+next-line-requires : tie.Need-next-line-requires
+next-line-requires c κs = search needs
+
+returns : tie.Need-returns
+returns c = let test = c .before .before .before in
+    let read = test .before .before in
+    let a = read .before .before .before .before .args in
+    let says = read .entry-of .ensures ∙ ap entry (read .before .part .ensures) in
+    let fit = sym (ap isFit says) ∙ sym (test .before .is-fit .ensures) ∙ test .if1 .taken in
+    let s = kept (a .s) (a .memory .now) in
+    c .next-line .ensures _ ∙ ap (λ t. atNextLine (t .made) t) (c .before .entered .ensures ∙ ap (λ e. entering e s) says) ∙ sym (ends-fit asking s fit)
+
+refused-requires : tie.Need-refused-requires
+refused-requires c κs = search needs
+
+returns-2 : tie.Need-returns-2
+returns-2 c = let test = c .before in
+    let read = test .before .before in
+    let a = read .before .before .before .before .args in
+    let says = read .entry-of .ensures ∙ ap entry (read .before .part .ensures) in
+    let unfit = sym (ap isFit says) ∙ sym (test .before .is-fit .ensures) ∙ test .if1 .left in
+    c .refused .ensures (a .memory .now) ∙ sym (ends-unfit asking (kept (a .s) (a .memory .now)) unfit)
+
+pub end-line-spec : {M : Type 1} → statement M
+end-line-spec =
+    tie.close
+    (tie.spec
+    slice-aggregate-part
+    part-requires
+    entry-of-requires
+    is-fit-requires
+    entered-requires
+    next-line-requires
+    returns
+    refused-requires
+    returns-2)

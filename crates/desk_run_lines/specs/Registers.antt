@@ -1,0 +1,28 @@
+-- The registers after a run, each on a line. The sentences quoted are README's, of "Explain a run", and document 01's.
+-- Assumes nothing.
+use mathlib.Core.List.{List, [], _∷_, _++_}
+use Prim.Native.Nat.{ℕ}
+use lib.ListN.{length, drop}
+use Rattle.characters.specs.Ascii.{tab, lineFeed}
+use Rattle.page.specs.Text.{octal}
+use Rattle.characters.specs.Named.{Named}
+use Rattle.machine_state.specs.Registers.{machineRegisters, digitsOf}
+use Rattle.shipped_rows.specs.Shipped.{shipped}
+
+-- "its name and the value that the run leaves, in octal with a digit for every three bits begun"
+abbrev pub registerLine : Named → ℕ → List ℕ
+registerLine r value = r .name ++ tab ∷ octal (digitsOf (r .number)) value ++ lineFeed ∷ []
+
+-- a line for each register
+abbrev pub registerLines : List Named → List ℕ → List ℕ
+registerLines [] vs = []
+registerLines (r ∷ rs) [] = []
+registerLines (r ∷ rs) (v ∷ vs) = registerLine r v ++ registerLines rs vs
+
+-- "A shipped description's registers that the emulator lacks are its working registers": those after the machine's
+abbrev pub workingRegisters : List Named
+workingRegisters = drop (length machineRegisters) (shipped .registers)
+
+-- their values among those of a description's registers
+abbrev pub workingValues : List ℕ → List ℕ
+workingValues values = drop (length machineRegisters) values

@@ -1,0 +1,27 @@
+-- "Interrupt test", and op 6, which switches it.
+-- Assumes nothing.
+use Prim.Native.Nat.{ℕ}
+use mathlib.Core.Bool.{_&&_}
+use lib.Dec.{eqb}
+use Rattle.word.specs.Choice.{on, pick}
+use Rattle.machine_state.specs.State.{State, stored, withPc, withEnable}
+
+-- "M[0] = PC, PC = 1, INTERRUPT.ENABLE = 0"
+abbrev pub interrupted : State → State
+interrupted s = withEnable 0 (withPc 1 (stored 0 (s .pc) s))
+
+-- "If INTERRUPT.ENABLE and INTERRUPT.REQUEST are both 1: .."
+unfoldable pub interruptTest : State → State
+interruptTest s = pick (on (s .enable) && on (s .request)) (interrupted s) s
+
+-- "word 6001 sets INTERRUPT.ENABLE and omits this step's interrupt test"
+abbrev pub ion : ℕ
+ion = 0o6001
+
+-- "6002 clears it"
+abbrev pub iof : ℕ
+iof = 0o6002
+
+-- "6: ..; any other has no effect", and the interrupt test of this step
+unfoldable pub inputOutput : ℕ → State → State
+inputOutput i s = pick (eqb i ion) (withEnable 1 s) (interruptTest (pick (eqb i iof) (withEnable 0 s) s))

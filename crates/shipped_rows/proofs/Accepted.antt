@@ -1,0 +1,43 @@
+-- The reader accepts the shipped text, and the tree is what it reads: the definition of reading, computed. So the shipped description is the tree, and its rows are within their limit.
+-- Assumes nothing.
+use mathlib.Core.Path.{_≡_, refl, sym, ap, _∙_, subst}
+use Prim.Native.Nat.{_≤_}
+use lib.Dec.{lit≤}
+use lib.ListN.{length}
+use Rattle.characters.specs.Characters.{run, runEnd, same}
+use Rattle.text_constants.specs.Constants.{numberAt, decimalAt, markedAt, shortestFrom, ofDecimal, constantAt}
+use Rattle.text_fields.specs.Fields.{lines, field, hasFields}
+use Rattle.characters.specs.Named.{find}
+use Rattle.text_names.specs.Names.{isName}
+use Rattle.text_operators.specs.OperatorNames.{findIn, operatorRow}
+use Rattle.text_tokens.specs.Tokens.{tokenEnd, operatorAt}
+use Rattle.text_bit_parts.specs.References.{secondBit, firstBit, spanAt, partOf, registerAt, referenceAt}
+use Rattle.text_code.specs.Readings.{limited, ofReference, ofConstant, notOf, closed, rotationOf, joined}
+use Rattle.text_grammar.specs.Grammar.{level}
+use Rattle.text_expression.specs.Expression.{whole, expression, ofName, ofAddress, memoryAt, destination}
+use Rattle.text_declaration.specs.Rows.{Description, piecesOf}
+use Rattle.text_declaration.specs.Lines.{addRegister, regLine, addLabel, atLine}
+use Rattle.text_targets.specs.Targets.{passes, firstMissing}
+use Rattle.text_rows.specs.Lines.{addRow, addDo, doLine, addGo, goLine}
+use Rattle.shipped_rows.specs.Text.{shippedText}
+use Rattle.shipped_rows.specs.Shipped.{described, shipped, mostShippedRows}
+use Rattle.shipped_rows.proofs.Tree.{tree}
+use Rattle.text_description.specs.Description.{accepted, finished, readLines, readBelow, readAll, readText}
+use Rattle.text_description.specs.Line.{byWord, readLine}
+
+pub shipped-accepted : readText shippedText ≡ accepted tree
+unfolding run runEnd same numberAt decimalAt markedAt shortestFrom ofDecimal constantAt lines field hasFields isName find findIn operatorRow tokenEnd
+    operatorAt secondBit firstBit spanAt partOf registerAt referenceAt limited ofReference ofConstant notOf closed rotationOf joined level whole
+    expression ofName ofAddress memoryAt destination addRegister regLine piecesOf addRow addDo doLine passes addGo goLine addLabel atLine byWord readLine firstMissing
+    finished readLines readBelow readAll readText shippedText
+shipped-accepted = refl
+
+pub shipped-is : shipped ≡ tree
+unfolding shipped
+shipped-is = ap described shipped-accepted
+
+pub shipped-read : readText shippedText ≡ accepted shipped
+shipped-read = shipped-accepted ∙ ap accepted (sym shipped-is)
+
+pub shipped-short : length (shipped .rows) ≤ mostShippedRows
+shipped-short = subst (λ (d : Description). length (d .rows) ≤ mostShippedRows) (sym shipped-is) (lit≤ tt)

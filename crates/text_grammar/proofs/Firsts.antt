@@ -1,0 +1,115 @@
+-- What a token tells: closing brackets are no operators, the words Not and M begin with a letter, and a constant begins neither with a letter nor with a parenthesis.
+-- And words as compared.
+-- Assumes nothing.
+use mathlib.Core.Path.{_≡_, refl, sym, ap, subst, _∙_}
+use mathlib.Core.Bool.{true, false, false≢true, _&&_}
+use mathlib.Core.List.{List, [], _∷_}
+use Prim.Native.Nat.{ℕ, zero, suc, _+_, _-_, _≤_, _<_}
+use native.Mathlib.Omega.{arith}
+use lib.Dec.{eqb, leb}
+use lib.ListN.{length, getD, take, drop}
+use lib.Seq.{drop-cons}
+use borrow.Author.Tests.{leb-true, lt-leb, eqb-true}
+use Rattle.laws.proofs.Tests.{by-test, by-case}
+use Rattle.laws.proofs.Joined.{and-left, and-right}
+use Rattle.laws.proofs.Lists.{present}
+use Rattle.characters.specs.Ascii.{ascii, digit}
+use Rattle.characters.specs.Characters.{isDigit, isLetter, isWord, runEnd, same}
+use Rattle.characters.specs.declared.Class.the-variants.{Word, Binary, Octal, Decimal}
+use Rattle.characters.proofs.Strings.{equal}
+use Rattle.text_constants.specs.Constants.{binaryMark, octalMark, binaryDigits, octalDigits, largest, isPlain, numberAt, decimalAt, markedAt, ofDecimal, constantAt}
+use Rattle.text_constants.specs.declared.Number.{Number}
+use Rattle.text_constants.specs.declared.Constant.{Constant}
+use Rattle.text_constants.specs.declared.Constant.the-variants.{Found, Missing}
+use Rattle.text_operators.specs.Operators.{entryIn}
+use Rattle.text_operators.specs.OperatorNames.{operatorRow, findIn}
+use Rattle.text_tokens.specs.Tokens.{next, token, operatorAt}
+use Rattle.text_tokens.specs.Signs.{roundOpen, roundClose, squareClose, notToken, memoryToken}
+use Rattle.text_tokens.proofs.Tokens.{word, token-first, token-word, word-token}
+use Rattle.text_grammar.specs.Says.{strength}
+
+-- closing brackets are no operators
+pub round-weak : (s : List ℕ) (q : ℕ) → token s q ≡ ascii ")" → strength s q ≡ 0
+unfolding operatorAt operatorRow findIn same
+round-weak s q e = ap (λ (l : List ℕ). entryIn (operatorRow l) .strength) e
+
+pub square-weak : (s : List ℕ) (q : ℕ) → token s q ≡ ascii "]" → strength s q ≡ 0
+unfolding operatorAt operatorRow findIn same
+square-weak s q e = ap (λ (l : List ℕ). entryIn (operatorRow l) .strength) e
+
+-- words as compared
+pub is-word : (a b : List ℕ) → same b b ≡ true → a ≡ b → same a b ≡ true
+is-word a b i e = ap (λ (z : List ℕ). same z b) e ∙ i
+
+pub is-no-word : (a b : List ℕ) → (a ≡ b → ⊥) → same a b ≡ false
+is-no-word a b h = by-test (same a b) (λ t. absurd (h (equal a b t))) (λ t. t)
+
+pub memory-no-not : same memoryToken notToken ≡ false
+unfolding same
+memory-no-not = refl
+
+-- the words Not and M, as tokens and as runs
+module _ (s : List ℕ) (at : ℕ) where
+  pub not-letter : token s at ≡ ascii "Not" → isLetter (next s at) ≡ true
+  not-letter e = ap isLetter (token-first s at _ _ e)
+
+  pub memory-letter : token s at ≡ ascii "M" → isLetter (next s at) ≡ true
+  memory-letter e = ap isLetter (token-first s at _ _ e)
+
+  pub not-word : token s at ≡ ascii "Not" → word s at ≡ ascii "Not"
+  not-word e = token-word s at _ _ refl e
+
+  pub memory-word : token s at ≡ ascii "M" → word s at ≡ ascii "M"
+  memory-word e = token-word s at _ _ refl e
+
+  pub word-not : word s at ≡ ascii "Not" → token s at ≡ ascii "Not"
+  word-not e = word-token s at _ _ refl e
+
+  pub word-memory : word s at ≡ ascii "M" → token s at ≡ ascii "M"
+  word-memory e = word-token s at _ _ refl e
+
+pub no-open : (x : ℕ) → isLetter x ≡ true → x ≡ roundOpen → ⊥
+no-open x e o = false≢true (sym (ap isLetter o) ∙ e)
+
+-- a constant's first byte is a mark or a digit
+abbrev First : ℕ → Constant → Type 0
+First b (Found v w p) = (b ≡ roundOpen → ⊥) × (isLetter b ≡ false)
+First b Missing = Unit {0}
+
+digit-first : (b : ℕ) → isDigit b ≡ true → (b ≡ roundOpen → ⊥) × (isLetter b ≡ false)
+digit-first b e =
+    let h : b ≤ digit 9 = leb-true b (digit 9) (and-right (leb (digit 0) b) (leb b (digit 9)) e) in
+    let l : digit 0 ≤ b = leb-true (digit 0) b (and-left (leb (digit 0) b) (leb b (digit 9)) e) in
+    ((λ o. omega (arith, o, l)), rw (lt-leb 65 b (omega (arith, h)), lt-leb 97 b (omega (arith, h))))
+
+any-first : (b : ℕ) (x : Constant) → (b ≡ roundOpen → ⊥) × (isLetter b ≡ false) → First b x
+any-first b (Found v w p) h = h
+any-first b Missing h = tt
+
+decimal-first : (s : List ℕ) (i : ℕ) → First (getD s i 0) (ofDecimal (decimalAt s i))
+unfolding decimalAt ofDecimal
+decimal-first s i =
+    let b = getD s i 0 in
+    let plain = isPlain b i (runEnd Decimal s i) (runEnd Word s i) in
+    by-case (λ (n : Number). First b (ofDecimal n)) (isDigit b && plain)
+    (λ t.
+    by-case (λ (n : Number). First b (ofDecimal n)) (leb (numberAt 10 s i (runEnd Word s i - i) 0) largest)
+    (λ u. digit-first b (and-left (isDigit b) plain t))
+    (λ u. tt))
+    (λ t. tt)
+
+pub constant-first : (s : List ℕ) (i : ℕ) {v w p : ℕ} → constantAt s i ≡ Found v w p → (getD s i 0 ≡ roundOpen → ⊥) × (isLetter (getD s i 0) ≡ false)
+unfolding constantAt
+constant-first s i e =
+    let b = getD s i 0 in
+    subst (First b) e
+    (by-case (First b) (eqb b binaryMark)
+    (λ t.
+    let m = eqb-true b binaryMark t in
+    any-first b (markedAt Binary 2 1 binaryDigits s (i + 1)) ((λ o. omega (arith, o, m)), ap isLetter m))
+    (λ t.
+    by-case (First b) (eqb b octalMark)
+    (λ u.
+    let m = eqb-true b octalMark u in
+    any-first b (markedAt Octal 8 3 octalDigits s (i + 1)) ((λ o. omega (arith, o, m)), ap isLetter m))
+    (λ u. decimal-first s i)))

@@ -1,0 +1,22 @@
+-- `row_table::cell`.
+use borrow.Author.Needs.{needs}
+use Rattle.text_row_table.proofs.cell.Statement.{statement}
+use Rattle.text_row_table.proofs.cell.Tie as tie
+
+mul-result : tie.Need-mul-result
+mul-result c = search needs
+
+add-result : tie.Need-add-result
+add-result c = search needs
+
+mul-result-2 : tie.Need-mul-result-2
+mul-result-2 c = search needs
+
+element-copy-out-result : tie.Need-element-copy-out-result
+element-copy-out-result c = search needs
+
+returns : tie.Need-returns
+returns c = search needs
+
+pub cell-spec : {M : Type 1} → statement M
+cell-spec = tie.close (tie.spec mul-result add-result mul-result-2 element-copy-out-result returns)

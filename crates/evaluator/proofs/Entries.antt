@@ -35,7 +35,7 @@ use Rattle.text_code.proofs.Formed.{register-width}
 use Rattle.text_declaration.specs.Rows.{Description}
 use Rattle.text_declaration.specs.Faults.{numberOf}
 use Rattle.text_declaration.specs.declared.faults.Fault.{Fault}
-use Rattle.text_row_table.specs.RowTable.{rowCells}
+use Rattle.text_code.specs.RowTable.{rowCells}
 use Rattle.text_description.specs.declared.reader.Findings.{Findings}
 use Rattle.text_description.specs.declared.reader.Verdict as verdict
 use Rattle.text_description.specs.declared.reader.Verdict.the-variants.{Accepted, Refused}

@@ -2,8 +2,8 @@
 use crate::outcome;
 use crate::outcome::OUTCOME_PLACES;
 use text_code::CODE_PLACES;
+use text_code::row_table::TABLE_CELLS;
 use text_description::reader::Verdict;
-use text_row_table::TABLE_CELLS;
 ghost use mathlib.Core.Path.{_≡_};
 ghost use Rattle.text_description.specs.Description.{readText};
 ghost use Rattle.guavachisel.specs.Outcome.{places};

@@ -4,3 +4,4 @@ pub mod Code
 pub mod Readings
 pub mod Formed
 pub mod Met
+pub mod RowTable

@@ -4,6 +4,7 @@ use crate::Cursor;
 use crate::Part;
 use crate::WIDEST;
 use crate::emit;
+use crate::kinds;
 use crate::one_more;
 use text_constants::Number;
 use text_operators::NOT;
@@ -49,7 +50,7 @@ pub fn closed_part(
         return Part::Fault;
     }
     if close == b']' {
-        emit(code, c.words, 3, 0, 0, 0);
+        emit(code, c.words, kinds::MEMORY, 0, 0, 0);
         Part::Found(one_more(c, end + 1), WORD_BITS)
     } else {
         Part::Found(
@@ -69,7 +70,7 @@ pub fn complemented_part(code: &mut [u16; CODE_PLACES], c: Cursor, width: u16) -
     ensures { λ r. ⌜ UnderNot c width r (now (code .entry)) (now (code .exit)) ⌝ }
 {
     let whole = width_in(NOT, width, 0);
-    emit(code, c.words, 4, width, 0, 0);
+    emit(code, c.words, kinds::NOT, width, 0, 0);
     Part::Found(one_more(c, c.place), whole)
 }
 
@@ -90,7 +91,7 @@ pub fn rotated_part(
         Number::Plain { value, place } => {
             if value <= LARGEST_COUNT {
                 let whole = width_in(row, width, 0);
-                emit(code, c.words, 4 + row as u16, width, value, 0);
+                emit(code, c.words, kinds::NOT + row as u16, width, value, 0);
                 Part::Found(
                     Cursor {
                         place: place,
@@ -123,6 +124,6 @@ pub fn joined_part(
     if WIDEST < both {
         return Part::Fault;
     }
-    emit(code, right.words, 4 + row as u16, width, other, 0);
+    emit(code, right.words, kinds::NOT + row as u16, width, other, 0);
     Part::Found(one_more(right, right.place), both)
 }

@@ -3,6 +3,7 @@ use crate::CODE_PLACES;
 use crate::Cursor;
 use crate::Part;
 use crate::WIDEST;
+use crate::kinds;
 use text_bit_parts::Reference;
 use text_constants::Constant;
 use text_names::Dictionary;
@@ -51,7 +52,7 @@ pub fn constant_part(s: &[u8], code: &mut [u16; CODE_PLACES], c: Cursor) -> Part
             value,
             width,
             place,
-        } => leaf_part(code, c, place, width, 2, value, width, 0),
+        } => leaf_part(code, c, place, width, kinds::CONSTANT, value, width, 0),
         Constant::Missing => Part::Fault,
     }
 }
@@ -73,7 +74,7 @@ pub fn reference_part(
             register,
             width,
             place,
-        } => leaf_part(code, c, place, width, 0, register, width, 0),
+        } => leaf_part(code, c, place, width, kinds::REGISTER, register, width, 0),
         Reference::Part {
             register,
             width,
@@ -82,7 +83,16 @@ pub fn reference_part(
             place,
         } => {
             let size = last - first + 1;
-            leaf_part(code, c, place, size, 1, register, width - 1 - last, size)
+            leaf_part(
+                code,
+                c,
+                place,
+                size,
+                kinds::PART,
+                register,
+                width - 1 - last,
+                size,
+            )
         }
         Reference::Unknown => Part::Fault,
     }

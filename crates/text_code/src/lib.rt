@@ -2,6 +2,7 @@
 pub mod compounds;
 pub mod kinds;
 pub mod leaves;
+pub mod row_table;
 
 ghost use mathlib.Core.Path.{_≡_};
 ghost use mathlib.Core.List.{[], _∷_};

@@ -34,7 +34,7 @@ use Rattle.text_declaration.specs.Lines.{Progress, refused, next}
 use Rattle.text_declaration.specs.Stored.{progressOf, stepBy, Within}
 use Rattle.text_code.specs.Met.{capacity}
 use Rattle.text_rows.specs.Cells as cells
-use Rattle.text_row_table.specs.RowTable.{rowCells}
+use Rattle.text_code.specs.RowTable.{rowCells}
 use Rattle.text_targets.specs.Targets.{MissingTarget, missingAt, noneMissing, firstMissing, lacksLabel}
 use Rattle.text_rows.specs.Stored.{Tables, Comes, Takes, firstGone}
 use Rattle.text_description.specs.Line.{readLine}

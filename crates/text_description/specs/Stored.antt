@@ -16,7 +16,7 @@ use Rattle.text_declaration.specs.Stored.{progressOf}
 use Rattle.text_code.specs.Met.{capacity}
 use Rattle.text_limits.specs.Limits.{mostRows}
 use Rattle.text_declaration.specs.declared.faults.Fault.{Fault}
-use Rattle.text_row_table.specs.RowTable.{rowCells}
+use Rattle.text_code.specs.RowTable.{rowCells}
 use Rattle.text_rows.specs.Cells.{code, cells}
 use Rattle.text_description.specs.declared.reader.Findings.{Findings}
 use Rattle.text_description.specs.declared.reader.Verdict.{Verdict}

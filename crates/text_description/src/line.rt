@@ -2,12 +2,12 @@
 use characters::Class;
 use characters::LINE_FEED;
 use text_code::CODE_PLACES;
+use text_code::row_table::TABLE_CELLS;
 use text_declaration::faults::Fault;
 use text_declaration::lines;
 use text_declaration::lines::Progress;
 use text_declaration::lines::Step;
 use text_limits::LONGEST_LINE;
-use text_row_table::TABLE_CELLS;
 use text_rows::rows;
 ghost use mathlib.Core.Path.{_≡_};
 ghost use Prim.Native.Nat.{_≤_};

@@ -2,12 +2,12 @@
 use crate::line;
 use characters::LINE_FEED;
 use text_code::CODE_PLACES;
+use text_code::row_table::TABLE_CELLS;
 use text_declaration::faults::Fault;
 use text_declaration::lines::Progress;
 use text_declaration::lines::Status;
 use text_limits::MOST_BYTES;
 use text_names::Dictionary;
-use text_row_table::TABLE_CELLS;
 ghost use mathlib.Core.Path.{_≡_};
 ghost use Prim.Native.Nat.{_≤_};
 ghost use lib.ListN.{length};

@@ -36,7 +36,7 @@ use Rattle.text_targets.specs.Targets.{passes, isMissing}
 use Rattle.text_declaration.specs.Stored.{progressOf, Within, Plain}
 use Rattle.text_rows.specs.declared.actions.RowRead.{RowRead}
 use Rattle.text_rows.specs.Lines.{addRow, addDo, doLine, rowsPassed, addGo, goLine}
-use Rattle.text_row_table.specs.RowTable.{rowCells}
+use Rattle.text_code.specs.RowTable.{rowCells}
 use Rattle.text_rows.specs.Cells.{goCells}
 use Rattle.text_rows.specs.Stored.{Tables, Comes, Takes, firstGone, hasRoom, oneMore, Put, RowReading, formed, unformed, doRow, takeRow, Forming, Jumps, Assigns, Rows}
 use Rattle.text_rows.proofs.Tables.{tables-more, row-code-pieces}

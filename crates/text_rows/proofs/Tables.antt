@@ -13,7 +13,7 @@ use Rattle.laws.proofs.Lists.{sets-behind}
 use Rattle.text_code.proofs.Pieces.{code-pieces}
 use Rattle.text_declaration.specs.Rows.{Row, does, goes, rowPieces, piecesOf, addressPieces}
 use Rattle.text_declaration.specs.declared.lines.Progress.{Progress}
-use Rattle.text_row_table.specs.RowTable.{rowCells}
+use Rattle.text_code.specs.RowTable.{rowCells}
 use Rattle.text_rows.specs.Cells.{addressCode, rowCode, code, cellsOf, cells}
 use Rattle.text_rows.specs.Stored.{Tables}
 

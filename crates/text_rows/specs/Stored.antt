@@ -31,7 +31,7 @@ use Rattle.text_targets.specs.Targets.{passes, isMissing}
 use Rattle.text_rows.specs.declared.cells.Aim.{Aim}
 use Rattle.text_rows.specs.declared.actions.RowRead.{RowRead}
 use Rattle.text_rows.specs.Lines.{addRow, rowsPassed}
-use Rattle.text_row_table.specs.RowTable.{rowCells}
+use Rattle.text_code.specs.RowTable.{rowCells}
 use Rattle.text_rows.specs.Cells.{goCells, addressCode, rowCode, code, kindOf, registerOf, rightOf, sizeOf, cellsOf, cells}
 
 -- the code's numbers count the rows, and the lent tables hold their words and are else as they came

@@ -1,13 +1,13 @@
 // The cells of a row in the table of rows.
 use text_code::Cursor;
-use text_row_table::ROW_CELLS;
-use text_row_table::TABLE_CELLS;
+use text_code::row_table::ROW_CELLS;
+use text_code::row_table::TABLE_CELLS;
 ghost use mathlib.Core.Path.{_≡_};
 ghost use Prim.Native.Nat.{_*_, _≤_, _<_};
 ghost use lib.Seq.{sets};
 ghost use Rattle.text_code.specs.Met.{capacity};
 ghost use Rattle.text_limits.specs.Limits.{mostRows};
-ghost use Rattle.text_row_table.specs.RowTable.{rowCells};
+ghost use Rattle.text_code.specs.RowTable.{rowCells};
 ghost use Rattle.text_rows.specs.Cells.{goCells, doCells};
 
 // Where a row's value goes: the cells of its destination, and how far its address reaches.

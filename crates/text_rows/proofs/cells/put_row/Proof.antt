@@ -5,7 +5,7 @@ use Prim.Native.Nat.{ℕ, _+_, _-_, _*_, _≤_}
 use native.Mathlib.Omega.{arith}
 use lib.ListN.{take, set, getD}
 use lib.Seq.{sets, take-all}
-use Rattle.text_row_table.specs.RowTable.{rowCells}
+use Rattle.text_code.specs.RowTable.{rowCells}
 use Rattle.laws.proofs.Lists.{sets-more}
 use borrow.Author.Needs.{needs}
 use Rattle.text_rows.proofs.cells.put_row.Statement.{statement}

@@ -1,7 +1,7 @@
--- `row_table::cell`.
+-- `text_code::row_table::cell`.
 use borrow.Author.Needs.{needs}
-use Rattle.text_row_table.proofs.cell.Statement.{statement}
-use Rattle.text_row_table.proofs.cell.Tie as tie
+use Rattle.text_code.proofs.row_table.cell.Statement.{statement}
+use Rattle.text_code.proofs.row_table.cell.Tie as tie
 
 mul-result : tie.Need-mul-result
 mul-result c = search needs

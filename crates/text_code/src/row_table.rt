@@ -4,7 +4,7 @@ ghost use mathlib.Core.Path.{_≡_};
 ghost use Prim.Native.Nat.{_*_, _+_, _<_};
 ghost use lib.ListN.{getD};
 ghost use Rattle.text_limits.specs.Limits.{mostRows};
-ghost use Rattle.text_row_table.specs.RowTable.{rowCells};
+ghost use Rattle.text_code.specs.RowTable.{rowCells};
 
 // How many cells a row has.
 pub const ROW_CELLS: usize = 9;

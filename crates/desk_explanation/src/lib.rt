@@ -10,6 +10,7 @@ use rows_store::Registers;
 use shipped::Both;
 use state::MEMORY_WORDS;
 use state::ROW_PLACES;
+use text_limits::MOST_REGISTERS;
 ghost use mathlib.Core.Path.{_≡_};
 ghost use mathlib.Core.List.{_++_};
 ghost use Prim.Native.Nat.{_-_, _≤_};
@@ -34,7 +35,7 @@ fn places_of(m: Machine) -> Registers
     ensures { λ r. ⌜ r .values ≡ placesOf m ⌝ }
 {
     let all = machine_state::registers::values_of(m);
-    let mut places = [0u16; 16];
+    let mut places = [0u16; MOST_REGISTERS];
     let mut k = 0;
     while k < MACHINE_REGISTERS {
         places[k] = all[k];

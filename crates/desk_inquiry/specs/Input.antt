@@ -1,7 +1,7 @@
 -- What the program `explain` reads: the image's lines as for the day listing, and "optional lines for machine registers (name, TAB, octal) and `budget`,
 -- TAB, decimal".
 -- Assumes nothing.
-use mathlib.Core.List.{List, [], _∷_}
+use mathlib.Core.List.{List}
 use mathlib.Core.Bool.{Bool}
 use Prim.Native.Nat.{ℕ}
 use lib.ListN.{set}

@@ -2,7 +2,6 @@
 use crate::outcome;
 use crate::outcome::OUTCOME_PLACES;
 ghost use mathlib.Core.Path.{_≡_};
-ghost use lib.ListN.{length};
 ghost use Rattle.guavachisel.specs.Shipping.{written, Shipped};
 
 // The number of the description of the machine without devices, in one field.

@@ -3,18 +3,16 @@
 -- Assumes nothing.
 use mathlib.Core.Path.{_≡_, refl, sym, ap, subst, _∙_}
 use mathlib.Core.Bool.{true, false, false≢true, _&&_}
-use mathlib.Core.List.{List, [], _∷_}
-use Prim.Native.Nat.{ℕ, zero, suc, _+_, _-_, _≤_, _<_}
+use mathlib.Core.List.{List}
+use Prim.Native.Nat.{ℕ, _+_, _-_, _≤_}
 use native.Mathlib.Omega.{arith}
 use lib.Dec.{eqb, leb}
-use lib.ListN.{length, getD, take, drop}
-use lib.Seq.{drop-cons}
+use lib.ListN.{getD}
 use borrow.Author.Tests.{leb-true, lt-leb, eqb-true}
 use Rattle.laws.proofs.Tests.{by-test, by-case}
 use Rattle.laws.proofs.Joined.{and-left, and-right}
-use Rattle.laws.proofs.Lists.{present}
 use Rattle.characters.specs.Ascii.{ascii, digit}
-use Rattle.characters.specs.Characters.{isDigit, isLetter, isWord, runEnd, same}
+use Rattle.characters.specs.Characters.{isDigit, isLetter, runEnd, same}
 use Rattle.characters.specs.declared.Class.the-variants.{Word, Binary, Octal, Decimal}
 use Rattle.characters.proofs.Strings.{equal}
 use Rattle.text_constants.specs.Constants.{binaryMark, octalMark, binaryDigits, octalDigits, largest, isPlain, numberAt, decimalAt, markedAt, ofDecimal, constantAt}
@@ -24,7 +22,7 @@ use Rattle.text_constants.specs.declared.Constant.the-variants.{Found, Missing}
 use Rattle.text_operators.specs.Operators.{entryIn}
 use Rattle.text_operators.specs.OperatorNames.{operatorRow, findIn}
 use Rattle.text_tokens.specs.Tokens.{next, token, operatorAt}
-use Rattle.text_tokens.specs.Signs.{roundOpen, roundClose, squareClose, notToken, memoryToken}
+use Rattle.text_tokens.specs.Signs.{roundOpen, notToken, memoryToken}
 use Rattle.text_tokens.proofs.Tokens.{word, token-first, token-word, word-token}
 use Rattle.text_grammar.specs.Says.{strength}
 

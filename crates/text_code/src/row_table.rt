@@ -29,7 +29,11 @@ pub const SIZE: usize = 7;
 
 pub const PASSED: usize = 8;
 
-// The kinds of rows that are told apart when rows are run: a `do` into memory, and a `go`. Below them are those into a register.
+// The kinds of rows: a `do` into a register, into a bit part of one, into memory; a `go`.
+pub const TO_REGISTER: u16 = 0;
+
+pub const TO_PART: u16 = 1;
+
 pub const TO_MEMORY: u16 = 2;
 
 pub const GO: u16 = 3;

@@ -31,7 +31,7 @@ use Rattle.text_targets.specs.Targets.{passes, isMissing}
 use Rattle.text_rows.specs.declared.cells.Aim.{Aim}
 use Rattle.text_rows.specs.declared.actions.RowRead.{RowRead}
 use Rattle.text_rows.specs.Lines.{addRow, rowsPassed}
-use Rattle.text_code.specs.RowTable.{rowCells}
+use Rattle.text_code.specs.RowTable.{rowCells, registerRow, partRow, memoryRow}
 use Rattle.text_rows.specs.Cells.{goCells, addressCode, rowCode, code, kindOf, registerOf, rightOf, sizeOf, cellsOf, cells}
 
 -- the code's numbers count the rows, and the lent tables hold their words and are else as they came
@@ -100,10 +100,10 @@ InOrder Nowhere = Unit {0}
 
 -- the cells of a place
 abbrev pub aimOf : Place → Cursor → Aim
-aimOf (Register r w) from = record { kind = 0; register = r; right = 0; size = w; end = from; found = true }
-aimOf (Bits r w a b) from = record { kind = 1; register = r; right = w - 1 - b; size = b - a + 1; end = from; found = true }
-aimOf (Word c) from = record { kind = 2; register = 0; right = 0; size = 0; end = c; found = true }
-aimOf Nowhere from = record { kind = 0; register = 0; right = 0; size = 0; end = from; found = false }
+aimOf (Register r w) from = record { kind = registerRow; register = r; right = 0; size = w; end = from; found = true }
+aimOf (Bits r w a b) from = record { kind = partRow; register = r; right = w - 1 - b; size = b - a + 1; end = from; found = true }
+aimOf (Word c) from = record { kind = memoryRow; register = 0; right = 0; size = 0; end = c; found = true }
+aimOf Nowhere from = record { kind = registerRow; register = 0; right = 0; size = 0; end = from; found = false }
 
 -- a destination that was read: its cells, and its address's words and pieces behind those before it
 pub record Aiming (x : Destination) (s : List ℕ) (a : Aim) (from : Cursor) (before after : List ℕ) : Type 0 where

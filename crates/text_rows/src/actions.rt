@@ -4,6 +4,7 @@ use crate::cells::Aim;
 use text_code::CODE_PLACES;
 use text_code::Cursor;
 use text_code::Part;
+use text_code::row_table;
 use text_code::row_table::ROW_CELLS;
 use text_expression::Place;
 use text_expression::read_destination;
@@ -27,7 +28,7 @@ fn aim_of(place: Place, from: Cursor) -> Aim
 {
     match place {
         Place::Register { register, width } => Aim {
-            kind: 0,
+            kind: row_table::TO_REGISTER,
             register: register,
             right: 0,
             size: width,
@@ -40,7 +41,7 @@ fn aim_of(place: Place, from: Cursor) -> Aim
             first,
             last,
         } => Aim {
-            kind: 1,
+            kind: row_table::TO_PART,
             register: register,
             right: width - 1 - last,
             size: last - first + 1,
@@ -48,7 +49,7 @@ fn aim_of(place: Place, from: Cursor) -> Aim
             found: true,
         },
         Place::Word(end) => Aim {
-            kind: 2,
+            kind: row_table::TO_MEMORY,
             register: 0,
             right: 0,
             size: 0,
@@ -56,7 +57,7 @@ fn aim_of(place: Place, from: Cursor) -> Aim
             found: true,
         },
         Place::Nowhere => Aim {
-            kind: 0,
+            kind: row_table::TO_REGISTER,
             register: 0,
             right: 0,
             size: 0,

@@ -1,5 +1,6 @@
 // The cells of a row in the table of rows.
 use text_code::Cursor;
+use text_code::row_table;
 use text_code::row_table::ROW_CELLS;
 use text_code::row_table::TABLE_CELLS;
 ghost use mathlib.Core.Path.{_≡_};
@@ -40,7 +41,7 @@ pub(crate) fn go_cells(start: usize, end: usize, passed: u16) -> [u16; ROW_CELLS
 {
     let first = (4 * start) as u16;
     let last = (4 * end) as u16;
-    [3, first, last, last, last, 0, 0, 0, passed]
+    [row_table::GO, first, last, last, last, 0, 0, 0, passed]
 }
 
 // The cells of a `do` whose condition has the words from start to middle.

@@ -1,5 +1,5 @@
 -- The lines that declare something, one by one: what each adds to what was read so far, or what it is turned down for.
--- "Lines are taken in order; within one, lower numbers first, left field first." The lines of rows are crate row's.
+-- "Lines are taken in order; within one, lower numbers first, left field first." The lines of rows are those of crate text_rows.
 -- Assumes nothing.
 use Prim.Native.Nat.{ℕ, _+_}
 use mathlib.Core.Bool.{Bool, true, false, not, _&&_}

@@ -1,4 +1,4 @@
--- `day_listing::listing`: the scanner tells whether a line was unfit, the check whether the memory can be run.
+-- `desk_day_listing::listing`: the scanner tells whether a line was unfit, the check whether the memory can be run.
 use borrow.Author.Needs.{needs}
 use mathlib.Core.Path.{refl, sym, _∙_}
 use native.Mathlib.Omega.{arith}

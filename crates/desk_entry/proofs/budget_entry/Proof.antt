@@ -1,4 +1,4 @@
--- `entry::budget_entry`: digits first, then how many steps they say.
+-- `desk_entry::budget_entry`: digits first, then how many steps they say.
 use borrow.Author.Needs.{needs}
 use native.Mathlib.Omega.{arith}
 use mathlib.Core.Bool.{_&&_}

@@ -1,4 +1,4 @@
--- `entry::entry_of`: a line has two fields.
+-- `desk_entry::entry_of`: a line has two fields.
 use borrow.Author.Needs.{needs}
 use mathlib.Core.Path.{sym, _∙_}
 use Rattle.desk_entry.specs.Lines.{entry}

@@ -1,4 +1,4 @@
--- `entry::register_entry`: digits of the register's own number, and a value of no more than its bits.
+-- `desk_entry::register_entry`: digits of the register's own number, and a value of no more than its bits.
 use borrow.Author.Needs.{needs}
 use native.Mathlib.Omega.{arith}
 use mathlib.Core.Path.{_≡_, ap, _∙_}

@@ -1,4 +1,4 @@
--- `entry::two_fields`: the budget, a register by its name, else a word.
+-- `desk_entry::two_fields`: the budget, a register by its name, else a word.
 use borrow.Author.Needs.{needs}
 use mathlib.Core.Path.{sym, _∙_}
 use borrow.Author.Tests.{lt-ltb, le-ltb}

@@ -1,4 +1,4 @@
--- `entry::word_entry`: four octal digits have twelve bits.
+-- `desk_entry::word_entry`: four octal digits have twelve bits.
 use borrow.Author.Needs.{needs}
 use native.Mathlib.Omega.{arith}
 use mathlib.Core.Path.{_≡_, sym, _∙_}

@@ -1,4 +1,4 @@
--- `explanation::answered`: the emulator's answer tells whether there was a run.
+-- `desk_explanation::answered`: the emulator's answer tells whether there was a run.
 use borrow.Author.Needs.{needs}
 use mathlib.Core.Path.{refl}
 use native.Mathlib.Omega.{arith}

@@ -1,4 +1,4 @@
--- `explanation::explain`: the whole text is one chunk.
+-- `desk_explanation::explain`: the whole text is one chunk.
 use borrow.Author.Needs.{needs}
 use mathlib.Core.Path.{ap, _∙_}
 use mathlib.Core.List.{[]}

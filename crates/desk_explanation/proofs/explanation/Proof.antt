@@ -1,4 +1,4 @@
--- `explanation::explanation`: the scanner tells whether a line was unfit.
+-- `desk_explanation::explanation`: the scanner tells whether a line was unfit.
 use borrow.Author.Needs.{needs}
 use mathlib.Core.Path.{_≡_, ap}
 use Rattle.machine_state.specs.Registers.{machineOf}

@@ -1,4 +1,4 @@
--- `explanation::pc_in`: by the answer.
+-- `desk_explanation::pc_in`: by the answer.
 use borrow.Author.Needs.{needs}
 use mathlib.Core.Path.{sym, ap}
 use Rattle.desk_explanation.specs.Answered.{pcIn}

@@ -1,4 +1,4 @@
--- `explanation::places_of`: the values are copied to the first places, and the others stay 0.
+-- `desk_explanation::places_of`: the values are copied to the first places, and the others stay 0.
 use borrow.Author.Needs.{needs}
 use native.Mathlib.Omega.{arith}
 use mathlib.Core.Path.{_≡_, refl, ap, _∙_}

@@ -1,4 +1,4 @@
--- `explanation::put_answer`: one part after the other; their room is counted.
+-- `desk_explanation::put_answer`: one part after the other; their room is counted.
 use borrow.Author.Needs.{needs}
 use native.Mathlib.Omega.{arith}
 use mathlib.Core.Path.{_≡_}

@@ -1,4 +1,4 @@
--- `explanation::run_on`: the evaluator is given the machine registers.
+-- `desk_explanation::run_on`: the evaluator is given the machine registers.
 use borrow.Author.Needs.{needs}
 use Rattle.desk_explanation.proofs.run_on.Statement.{statement}
 use Rattle.desk_explanation.proofs.run_on.Tie as tie

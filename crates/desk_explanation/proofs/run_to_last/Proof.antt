@@ -1,4 +1,4 @@
--- `explanation::run_to_last`: the budget is one step fewer.
+-- `desk_explanation::run_to_last`: the budget is one step fewer.
 use borrow.Author.Needs.{needs}
 use Rattle.desk_explanation.proofs.run_to_last.Statement.{statement}
 use Rattle.desk_explanation.proofs.run_to_last.Tie as tie

@@ -1,4 +1,4 @@
--- `image::after_read`: the bytes read are the chunk.
+-- `desk_image::after_read`: the bytes read are the chunk.
 use borrow.Author.Needs.{needs}
 use mir.Facts.{toZ-ofZ}
 use Rattle.desk_image.specs.Scan.{words, scanByte, begun}

@@ -1,4 +1,4 @@
--- `image::begin`: 4,096 zeros, and line 1.
+-- `desk_image::begin`: 4,096 zeros, and line 1.
 use mathlib.Core.Path.{refl}
 use Rattle.desk_image.specs.Input.{clear}
 use Rattle.desk_image.specs.Pass.{pass}

@@ -1,4 +1,4 @@
--- `image::end_line`: the bytes of the line decide.
+-- `desk_image::end_line`: the bytes of the line decide.
 use borrow.Author.Needs.{needs}
 use mathlib.Core.Path.{sym, ap, _∙_}
 use Rattle.desk_image.specs.Input.{isWordLine, stored}

@@ -1,4 +1,4 @@
--- `image::is_digits`: the run of digits is the whole field.
+-- `desk_image::is_digits`: the run of digits is the whole field.
 use borrow.Author.Needs.{needs}
 use mathlib.Core.Path.{_∙_}
 use Rattle.desk_image.proofs.Digits.{run-from-0}

@@ -1,4 +1,4 @@
--- `image::is_word_line`: two fields, of four octal digits each.
+-- `desk_image::is_word_line`: two fields, of four octal digits each.
 use borrow.Author.Needs.{needs}
 use Rattle.desk_image.specs.Input.{isWordLine}
 use Rattle.desk_image.proofs.is_word_line.Statement.{statement}

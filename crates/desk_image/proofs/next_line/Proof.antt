@@ -1,4 +1,4 @@
--- `image::next_line`: one line on, and no byte of it.
+-- `desk_image::next_line`: one line on, and no byte of it.
 use borrow.Author.Needs.{needs}
 use mathlib.Core.Path.{ap}
 use mathlib.Core.List.{[]}

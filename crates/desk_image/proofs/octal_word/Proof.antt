@@ -1,4 +1,4 @@
--- `image::octal_word`: four octal digits have twelve bits.
+-- `desk_image::octal_word`: four octal digits have twelve bits.
 use borrow.Author.Needs.{needs}
 use native.Mathlib.Omega.{arith}
 use Rattle.characters.specs.declared.Class.the-variants.{Octal}

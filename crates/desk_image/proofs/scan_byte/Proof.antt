@@ -1,4 +1,4 @@
--- `image::scan_byte`: a refused line stays; the LF ends the line; another byte is one more of it.
+-- `desk_image::scan_byte`: a refused line stays; the LF ends the line; another byte is one more of it.
 use borrow.Author.Needs.{needs}
 use mathlib.Core.Path.{_≡_}
 use lib.ListN.{length}

@@ -1,4 +1,4 @@
--- `image::store`: an address has twelve bits, and so is one of the memory.
+-- `desk_image::store`: an address has twelve bits, and so is one of the memory.
 use borrow.Author.Needs.{needs}
 use native.Mathlib.Omega.{arith}
 use mathlib.Core.Path.{ap}

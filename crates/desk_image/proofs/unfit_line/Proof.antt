@@ -1,4 +1,4 @@
--- `image::unfit_line`: a refused line, else one that has begun.
+-- `desk_image::unfit_line`: a refused line, else one that has begun.
 use borrow.Author.Needs.{needs}
 use native.Mathlib.Omega.{arith}
 use mathlib.Core.Path.{_≡_}

@@ -1,4 +1,4 @@
--- `inquiry::begin`: 4,096 zeros, and line 1.
+-- `desk_inquiry::begin`: 4,096 zeros, and line 1.
 use borrow.Author.Needs.{needs}
 use mathlib.Core.Path.{ap}
 use mathlib.Core.List.{List, []}

@@ -1,4 +1,4 @@
--- `inquiry::end_line`: what the bytes of the line say decides.
+-- `desk_inquiry::end_line`: what the bytes of the line say decides.
 use borrow.Author.Needs.{needs}
 use mathlib.Core.Path.{sym, ap, _∙_}
 use Rattle.desk_image.specs.Scan.{atNextLine}

@@ -1,4 +1,4 @@
--- `inquiry::entered`: each kind of entry in its place.
+-- `desk_inquiry::entered`: each kind of entry in its place.
 use borrow.Author.Needs.{needs}
 use mathlib.Core.Path.{_≡_, sym, ap, _∙_}
 use native.Mathlib.Omega.{arith}

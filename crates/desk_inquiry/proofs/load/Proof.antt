@@ -1,4 +1,4 @@
--- `inquiry::load`: nothing is set past the end.
+-- `desk_inquiry::load`: nothing is set past the end.
 use borrow.Author.Needs.{needs}
 use mathlib.Core.Path.{refl, sym}
 use lib.Seq.{set-out}

@@ -1,4 +1,4 @@
--- `inquiry::next_line`: one line on, and no byte of it.
+-- `desk_inquiry::next_line`: one line on, and no byte of it.
 use borrow.Author.Needs.{needs}
 use mathlib.Core.Path.{ap}
 use mathlib.Core.List.{[]}

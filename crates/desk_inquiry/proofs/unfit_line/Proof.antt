@@ -1,4 +1,4 @@
--- `inquiry::unfit_line`: a refused line, else one that has begun.
+-- `desk_inquiry::unfit_line`: a refused line, else one that has begun.
 use borrow.Author.Needs.{needs}
 use native.Mathlib.Omega.{arith}
 use mathlib.Core.Path.{_≡_}

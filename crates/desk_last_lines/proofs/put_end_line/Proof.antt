@@ -1,4 +1,4 @@
--- `last_lines::put_end_line`: the word goes by RUN.
+-- `desk_last_lines::put_end_line`: the word goes by RUN.
 use borrow.Author.Needs.{needs}
 use borrow.Author.Tests.{eq-eqb, ne-eqb}
 use Rattle.page.proofs.Writing.{written-then}

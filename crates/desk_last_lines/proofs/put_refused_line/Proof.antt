@@ -1,4 +1,4 @@
--- `last_lines::put_refused_line`: a number of 64 bits has at most 20 digits.
+-- `desk_last_lines::put_refused_line`: a number of 64 bits has at most 20 digits.
 use borrow.Author.Needs.{needs}
 use mathlib.Core.Path.{refl}
 use native.Mathlib.Omega.{arith}

@@ -1,4 +1,4 @@
--- `reference::refer`: where ib is 0 the op's function has the first address.
+-- `machine_reference::refer`: where ib is 0 the op's function has the first address.
 use Rattle.machine_reference.specs.Reference.{operation}
 use Rattle.machine_reference.proofs.Addresses.{firstAddress-lt}
 use Rattle.machine_reference.proofs.Refers.{ib-left, first-performed}

@@ -1,4 +1,4 @@
--- `reference::refer_indirectly`: the address is worked out once, and the op's function has it and the memory that it left.
+-- `machine_reference::refer_indirectly`: the address is worked out once, and the op's function has it and the memory that it left.
 use Rattle.machine_reference.specs.Reference.{operation}
 use Rattle.machine_reference.proofs.Refers.{none-left, ready, performed}
 use borrow.Author.Needs.{needs}

@@ -1,4 +1,4 @@
--- `value::leaf_value`: kind by kind.
+-- `rows_value::leaf_value`: kind by kind.
 use Prim.Native.Nat.{_/_}
 use native.Mathlib.Nat.{mod-le, div-le-self}
 use borrow.Author.Tests.{eq-eqb, ne-eqb}

@@ -1,4 +1,4 @@
--- `value::pops`: kind by kind.
+-- `rows_value::pops`: kind by kind.
 use borrow.Author.Tests.{eq-eqb, ne-eqb, lt-ltb, le-ltb}
 use Rattle.rows_value.specs.Words.{pops}
 use Rattle.rows_value.proofs.pops.Statement.{statement}

@@ -1,4 +1,4 @@
--- `value::value_between` is its definition.
+-- `rows_value::value_between` is its definition.
 use native.Mathlib.Omega.{arith}
 use lib.Dec.{leb}
 use borrow.Author.Tests.{leb-true}

@@ -1,4 +1,4 @@
--- `value::value_of`: word by word.
+-- `rows_value::value_of`: word by word.
 use mathlib.Core.Path.{_≡_, refl, sym, ap, _∙_}
 use Prim.Native.Nat.{_+_, _*_, _≤_}
 use native.Mathlib.Omega.{arith}

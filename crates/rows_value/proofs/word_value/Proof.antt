@@ -1,4 +1,4 @@
--- `value::word_value`: kind by kind.
+-- `rows_value::word_value`: kind by kind.
 use borrow.Author.Tests.{eq-eqb, ne-eqb, lt-ltb, le-ltb}
 use lib.ListN.{getD}
 use Rattle.rows_value.specs.Words.{wordValue}

@@ -1,4 +1,4 @@
--- `pdp8_rows::shipped_text`: the bytes are the definition's.
+-- `shipped_rows::shipped_text`: the bytes are the definition's.
 use mathlib.Core.Path.{refl}
 use Rattle.shipped_rows.specs.Text.{shippedText}
 use Rattle.shipped_rows.proofs.shipped_text.Statement.{statement}

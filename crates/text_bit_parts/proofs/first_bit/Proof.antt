@@ -1,4 +1,4 @@
--- `bit_parts::first_bit` is its definition, case by case.
+-- `text_bit_parts::first_bit` is its definition, case by case.
 use mathlib.Core.Path.{sym, ap, _∙_}
 use Prim.Native.Nat.{ℕ, _+_}
 use native.Mathlib.Omega.{arith}

@@ -1,4 +1,4 @@
--- `bit_parts::part_of` is its definition, case by case.
+-- `text_bit_parts::part_of` is its definition, case by case.
 use Rattle.text_bit_parts.specs.References.{partOf}
 use borrow.Author.Needs.{needs}
 use Rattle.text_bit_parts.proofs.part_of.Statement.{statement}

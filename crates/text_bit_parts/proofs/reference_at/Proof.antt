@@ -1,4 +1,4 @@
--- `bit_parts::reference_at` is its definition: the name is looked for.
+-- `text_bit_parts::reference_at` is its definition: the name is looked for.
 use mathlib.Core.Path.{_≡_, sym, ap, _∙_}
 use mathlib.Core.List.{List}
 use Prim.Native.Nat.{ℕ, _≤_, _<_}

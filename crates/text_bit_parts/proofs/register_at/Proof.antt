@@ -1,4 +1,4 @@
--- `bit_parts::register_at` is its definition, by the next byte.
+-- `text_bit_parts::register_at` is its definition, by the next byte.
 use mathlib.Core.Path.{sym, ap, _∙_}
 use Prim.Native.Nat.{ℕ, _+_}
 use native.Mathlib.Omega.{arith}

@@ -1,4 +1,4 @@
--- `bit_parts::second_bit` is its definition, case by case.
+-- `text_bit_parts::second_bit` is its definition, case by case.
 use mathlib.Core.Path.{sym, _∙_}
 use native.Mathlib.Omega.{arith}
 use Rattle.text_tokens.specs.Signs.{angleClose}

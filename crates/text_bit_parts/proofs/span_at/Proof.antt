@@ -1,4 +1,4 @@
--- `bit_parts::span_at` is its definition, read off the calls.
+-- `text_bit_parts::span_at` is its definition, read off the calls.
 use mathlib.Core.Path.{ap, _∙_}
 use Rattle.text_bit_parts.specs.References.{firstBit, spanAt}
 use Rattle.text_constants.specs.Constants.{decimalAt}

@@ -1,4 +1,4 @@
--- `code::emit`: four stores, one behind the other.
+-- `text_code::emit`: four stores, one behind the other.
 use native.Mathlib.Numerals.{towards-suc}
 use borrow.Author.Needs.{needs}
 use Rattle.text_code.proofs.emit.Statement.{statement}

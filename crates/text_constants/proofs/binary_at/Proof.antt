@@ -1,4 +1,4 @@
--- `constants::binary_at`: the digits from the place on, of one bit each.
+-- `text_constants::binary_at`: the digits from the place on, of one bit each.
 use Prim.Native.Nat.{_-_}
 use native.Mathlib.Nat.{one-mul}
 use native.Mathlib.Omega.{arith}

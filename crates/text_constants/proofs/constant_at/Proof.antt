@@ -1,4 +1,4 @@
--- `constants::constant_at`: by the mark.
+-- `text_constants::constant_at`: by the mark.
 use mathlib.Core.Path.{sym, ap, _∙_}
 use lib.ListN.{getD}
 use borrow.Author.Tests.{eq-eqb, ne-eqb}

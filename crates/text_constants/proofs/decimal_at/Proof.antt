@@ -1,4 +1,4 @@
--- `constants::decimal_at`: the tests of its definition, in its order.
+-- `text_constants::decimal_at`: the tests of its definition, in its order.
 use mathlib.Core.Path.{_≡_, sym}
 use mathlib.Core.Bool.{Bool, true, not, _&&_, _||_}
 use Prim.Native.Nat.{ℕ, _+_, _-_, _≤_, _<_}

@@ -1,4 +1,4 @@
--- `constants::digits_value`: what is read and what is left make the number; four bits a digit bound it.
+-- `text_constants::digits_value`: what is read and what is left make the number; four bits a digit bound it.
 use mathlib.Core.Path.{_≡_, refl, sym, subst, _∙_}
 use Prim.Native.Nat.{ℕ, _+_, _-_, _*_, _%_, _^_, _≤_, _<_}
 use native.Mathlib.Omega.{arith}

@@ -1,4 +1,4 @@
--- `constants::from_decimal` is its definition, case by case.
+-- `text_constants::from_decimal` is its definition, case by case.
 use native.Mathlib.Omega.{arith}
 use Rattle.text_constants.specs.Constants.{ofDecimal}
 use Rattle.text_constants.proofs.Digits.{shortest-le}

@@ -1,4 +1,4 @@
--- `constants::octal_at`: the digits from the place on, of three bits each.
+-- `text_constants::octal_at`: the digits from the place on, of three bits each.
 use native.Mathlib.Omega.{arith}
 use Rattle.text_constants.specs.Constants.{octalDigits, markedAt}
 use Rattle.characters.specs.declared.Class.the-variants.{Octal}

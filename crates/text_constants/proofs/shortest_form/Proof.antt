@@ -1,4 +1,4 @@
--- `constants::shortest_form`: one number of bits after the other is tried.
+-- `text_constants::shortest_form`: one number of bits after the other is tried.
 use mathlib.Core.Path.{_≡_, refl, sym, ap, _∙_}
 use Prim.Native.Nat.{ℕ, _+_, _-_, _≤_}
 use native.Mathlib.Nat.{sub-add-eq}

@@ -1,4 +1,4 @@
--- `expression::addressed_place`: by its own test.
+-- `text_expression::addressed_place`: by its own test.
 use mathlib.Core.Path.{_∙_}
 use native.Mathlib.Omega.{arith}
 use Rattle.characters.specs.declared.Class.the-variants.{Space}

@@ -1,4 +1,4 @@
--- `expression::is_trimmed`: the first byte and the last.
+-- `text_expression::is_trimmed`: the first byte and the last.
 use mathlib.Core.Path.{_≡_, refl, sym}
 use mathlib.Core.Bool.{true}
 use mathlib.Core.List.{List, [], _∷_}

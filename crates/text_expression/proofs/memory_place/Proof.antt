@@ -1,4 +1,4 @@
--- `expression::memory_place`: the weakest level behind the bracket, with calls enough for the field.
+-- `text_expression::memory_place`: the weakest level behind the bracket, with calls enough for the field.
 use mathlib.Core.Path.{sym, ap, _∙_}
 use Prim.Native.Nat.{_+_}
 use native.Mathlib.Omega.{arith}

@@ -1,4 +1,4 @@
--- `expression::named_place`: by the kind of the reference.
+-- `text_expression::named_place`: by the kind of the reference.
 use mathlib.Core.Path.{ap, _∙_}
 use Rattle.text_expression.specs.Expression.{ofName}
 use Rattle.text_expression.proofs.Destinations.{to-register, not-register, to-part, not-part}

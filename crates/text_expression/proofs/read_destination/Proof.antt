@@ -1,4 +1,4 @@
--- `expression::read_destination`: `M` or a name.
+-- `text_expression::read_destination`: `M` or a name.
 use mathlib.Core.Path.{sym, _∙_}
 use native.Mathlib.Omega.{arith}
 use Rattle.text_names.specs.Dictionaries.{entries}

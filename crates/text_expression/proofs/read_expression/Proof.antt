@@ -1,4 +1,4 @@
--- `expression::read_expression`: the weakest level from the start, with calls enough for the field.
+-- `text_expression::read_expression`: the weakest level from the start, with calls enough for the field.
 use mathlib.Core.Path.{refl, sym, ap, _∙_}
 use Prim.Native.Nat.{ℕ, _+_}
 use native.Mathlib.Omega.{arith}

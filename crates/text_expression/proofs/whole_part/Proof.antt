@@ -1,4 +1,4 @@
--- `expression::whole_part`: by its own test.
+-- `text_expression::whole_part`: by its own test.
 use Rattle.text_expression.proofs.WholeFields.{is-whole, is-part}
 use borrow.Author.Needs.{needs}
 use Rattle.text_expression.proofs.whole_part.Statement.{statement}

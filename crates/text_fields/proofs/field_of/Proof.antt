@@ -1,4 +1,4 @@
--- `fields::field_of`: the field of what is left is the field of the line.
+-- `text_fields::field_of`: the field of what is left is the field of the line.
 use mathlib.Core.Path.{_≡_, refl, sym, ap, _∙_}
 use Prim.Native.Nat.{_-_}
 use Rattle.text_fields.specs.Fields.{field}

@@ -1,4 +1,4 @@
--- `fields::has_fields`: field by field.
+-- `text_fields::has_fields`: field by field.
 use mathlib.Core.Path.{_≡_, refl, sym, ap, _∙_}
 use mathlib.Core.Bool.{_&&_}
 use mathlib.Core.List.{List}

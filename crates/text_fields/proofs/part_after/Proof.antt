@@ -1,4 +1,4 @@
--- `fields::part_after`: what stands past the byte, or nothing.
+-- `text_fields::part_after`: what stands past the byte, or nothing.
 use mathlib.Core.Path.{ap, _∙_}
 use Prim.Native.Nat.{ℕ, _+_}
 use native.Mathlib.Omega.{arith}

@@ -1,4 +1,4 @@
--- `fields::part_before`: the run from the start ends before the byte.
+-- `text_fields::part_before`: the run from the start ends before the byte.
 use mathlib.Core.Path.{sym, ap, _∙_}
 use Prim.Native.Nat.{ℕ}
 use lib.ListN.{take}

@@ -1,4 +1,4 @@
--- `names::is_name` is its definition, read off the calls.
+-- `text_names::is_name` is its definition, read off the calls.
 use Rattle.text_names.specs.Names.{isName}
 use borrow.Author.Needs.{needs}
 use Rattle.text_names.proofs.is_name.Statement.{statement}

@@ -1,4 +1,4 @@
--- `names::place_of`: entry by entry.
+-- `text_names::place_of`: entry by entry.
 use mathlib.Core.Path.{_≡_, sym, _∙_}
 use Prim.Native.Nat.{_+_, _-_}
 use Rattle.characters.specs.Named.{find}

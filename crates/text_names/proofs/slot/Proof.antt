@@ -1,4 +1,4 @@
--- `names::slot`: past the end a list has its default.
+-- `text_names::slot`: past the end a list has its default.
 use mathlib.Core.Path.{sym}
 use lib.ListN.{List·getD-eq-default}
 use borrow.Author.Needs.{needs}

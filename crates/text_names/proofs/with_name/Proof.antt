@@ -1,4 +1,4 @@
--- `names::with_name`: the entries before the new one stay.
+-- `text_names::with_name`: the entries before the new one stay.
 use mathlib.Core.Path.{refl}
 use Rattle.text_names.proofs.Entries.{one-more}
 use borrow.Author.Needs.{needs}

@@ -1,4 +1,4 @@
--- `operators::entry_in`: the constant table is the definition's.
+-- `text_operators::entry_in`: the constant table is the definition's.
 use mathlib.Core.Path.{sym}
 use lib.ListN.{List·getD-eq-default}
 use Rattle.text_operators.specs.Operators.{table, noEntry}

@@ -1,4 +1,4 @@
--- `operators::width_by`: kind by kind.
+-- `text_operators::width_by`: kind by kind.
 use native.Mathlib.Omega.{arith}
 use borrow.Author.Needs.{needs}
 use Rattle.text_operators.proofs.width_by.Statement.{statement}

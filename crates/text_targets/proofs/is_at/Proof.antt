@@ -1,4 +1,4 @@
--- `targets::is_at`: the two fields compared.
+-- `text_targets::is_at`: the two fields compared.
 use borrow.Author.Needs.{needs}
 use Rattle.text_targets.proofs.is_at.Statement.{statement}
 use Rattle.text_targets.proofs.is_at.Tie as tie

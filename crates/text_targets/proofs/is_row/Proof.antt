@@ -1,4 +1,4 @@
--- `targets::is_row`: the first field compared.
+-- `text_targets::is_row`: the first field compared.
 use borrow.Author.Needs.{needs}
 use Rattle.text_targets.proofs.is_row.Statement.{statement}
 use Rattle.text_targets.proofs.is_row.Tie as tie

@@ -1,4 +1,4 @@
--- `targets::passes`: line by line.
+-- `text_targets::passes`: line by line.
 use mathlib.Core.Path.{_≡_, sym, ap, _∙_}
 use mathlib.Core.Logic.{inl, inr}
 use mathlib.Core.List.{List}

@@ -1,4 +1,4 @@
--- `tokens::operator_at` is its definition, read off the calls.
+-- `text_tokens::operator_at` is its definition, read off the calls.
 use mathlib.Core.Path.{ap, _∙_}
 use Prim.Native.Nat.{ℕ}
 use Rattle.text_tokens.specs.Tokens.{slice, tokenEnd, operatorAt}

@@ -1,4 +1,4 @@
--- `tokens::operator_end` is its definition, read off the calls.
+-- `text_tokens::operator_end` is its definition, read off the calls.
 use mathlib.Core.Path.{ap, _∙_}
 use Rattle.text_tokens.specs.Tokens.{tokenEnd}
 use Rattle.characters.specs.declared.Class.the-variants.{Space}

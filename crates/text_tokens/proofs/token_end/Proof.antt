@@ -1,4 +1,4 @@
--- `tokens::token_end` is its definition, by the first byte.
+-- `text_tokens::token_end` is its definition, by the first byte.
 use mathlib.Core.Path.{sym, ap, _∙_}
 use Rattle.characters.specs.Characters.{isWord}
 use Rattle.text_tokens.proofs.Tokens.{word-end, binary-end, octal-end, other-end}

@@ -1,4 +1,4 @@
--- `day_listing::lines::put_step_line`: the fields one after the other.
+-- `desk_day_listing::lines::put_step_line`: the fields one after the other.
 use native.Mathlib.Omega.{arith}
 use Rattle.desk_day_listing.specs.Listing.{stepLine}
 use Rattle.page.proofs.Writing.{written-then}

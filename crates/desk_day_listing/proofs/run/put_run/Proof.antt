@@ -1,4 +1,4 @@
--- `day_listing::run::put_run`: the heading, and the run listed as far as the loop has come.
+-- `desk_day_listing::run::put_run`: the heading, and the run listed as far as the loop has come.
 use borrow.Author.Needs.{needs}
 use borrow.Author.Tests.{ne-eqb}
 use mathlib.Core.Path.{ap}

@@ -1,4 +1,4 @@
--- `day_listing::run::put_step`: the word is fetched before the step.
+-- `desk_day_listing::run::put_step`: the word is fetched before the step.
 use borrow.Author.Needs.{needs}
 use mathlib.Core.Path.{refl}
 use Rattle.desk_day_listing.proofs.run.put_step.Statement.{statement}

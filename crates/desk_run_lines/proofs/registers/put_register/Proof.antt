@@ -1,4 +1,4 @@
--- `run_lines::registers::put_register`: name, TAB and digits, LF.
+-- `desk_run_lines::registers::put_register`: name, TAB and digits, LF.
 use borrow.Author.Needs.{needs}
 use native.Mathlib.Omega.{arith}
 use Rattle.page.proofs.Numbers.{octal-length}

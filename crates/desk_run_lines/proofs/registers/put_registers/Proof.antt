@@ -1,4 +1,4 @@
--- `run_lines::registers::put_registers`: the lines of the registers read have been written.
+-- `desk_run_lines::registers::put_registers`: the lines of the registers read have been written.
 use borrow.Author.Needs.{needs}
 use native.Mathlib.Omega.{arith}
 use mathlib.Core.Path.{_≡_, ap, _∙_, subst}

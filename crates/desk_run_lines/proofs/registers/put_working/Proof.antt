@@ -1,4 +1,4 @@
--- `run_lines::registers::put_working`: the lines one after the other.
+-- `desk_run_lines::registers::put_working`: the lines one after the other.
 use borrow.Author.Needs.{needs}
 use native.Mathlib.Omega.{arith}
 use mathlib.Core.Path.{_≡_}

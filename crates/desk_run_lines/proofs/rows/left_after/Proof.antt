@@ -1,4 +1,4 @@
--- `run_lines::rows::left_after`: one fewer after a row.
+-- `desk_run_lines::rows::left_after`: one fewer after a row.
 use borrow.Author.Needs.{needs}
 use mathlib.Core.Path.{sym, ap, _∙_}
 use Prim.Native.Nat.{_-_}

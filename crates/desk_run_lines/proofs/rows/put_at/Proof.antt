@@ -1,4 +1,4 @@
--- `run_lines::rows::put_at`: the label, and the number.
+-- `desk_run_lines::rows::put_at`: the label, and the number.
 use borrow.Author.Needs.{needs}
 use native.Mathlib.Omega.{arith}
 use mathlib.Core.List.{[], _∷_}

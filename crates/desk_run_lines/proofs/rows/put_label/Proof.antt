@@ -1,4 +1,4 @@
--- `run_lines::rows::put_label`: a `go` has a line, a `do` none.
+-- `desk_run_lines::rows::put_label`: a `go` has a line, a `do` none.
 use borrow.Author.Needs.{needs}
 use mathlib.Core.Path.{_≡_, sym, ap, _∙_}
 use native.Mathlib.Omega.{arith}

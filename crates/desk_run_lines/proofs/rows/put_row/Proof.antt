@@ -1,4 +1,4 @@
--- `run_lines::rows::put_row`: number, TAB, text, LF, and the line of its label.
+-- `desk_run_lines::rows::put_row`: number, TAB, text, LF, and the line of its label.
 use borrow.Author.Needs.{needs}
 use native.Mathlib.Omega.{arith}
 use mathlib.Core.Path.{ap, _∙_}

@@ -1,4 +1,4 @@
--- `run_lines::rows::put_rows`: the rows read have been written.
+-- `desk_run_lines::rows::put_rows`: the rows read have been written.
 use borrow.Author.Needs.{needs}
 use mathlib.Core.Path.{_≡_}
 use native.Mathlib.Omega.{arith}

@@ -1,4 +1,4 @@
--- `run_lines::rows::row_below`: the rows above the label, and one.
+-- `desk_run_lines::rows::row_below`: the rows above the label, and one.
 use borrow.Author.Needs.{needs}
 use mathlib.Core.Path.{sym, ap, _∙_}
 use native.Mathlib.Numerals.{add-one}

@@ -1,4 +1,4 @@
--- `run_lines::rows::row_of`: row k of the text is a row of what is left of it.
+-- `desk_run_lines::rows::row_of`: row k of the text is a row of what is left of it.
 use borrow.Author.Needs.{needs}
 use mathlib.Core.Path.{_≡_, sym, ap, ap₂, _∙_}
 use mathlib.Core.List.{[]}

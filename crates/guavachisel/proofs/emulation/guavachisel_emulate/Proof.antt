@@ -1,4 +1,4 @@
--- `guavachisel_emulate` hands over each case of the emulator's answer.
+-- `guavachisel::emulation::guavachisel_emulate` hands over each case of the emulator's answer.
 use denote.Ref.{now}
 use Rattle.guavachisel.proofs.Answers.{ran-emulated, refused-emulated}
 use borrow.Author.Needs.{needs}

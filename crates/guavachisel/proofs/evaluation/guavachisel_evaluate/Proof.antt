@@ -1,4 +1,4 @@
--- `guavachisel_evaluate` hands over the evaluator's answer.
+-- `guavachisel::evaluation::guavachisel_evaluate` hands over the evaluator's answer.
 use Rattle.guavachisel.proofs.Evaluations.{evaluated}
 use borrow.Author.Needs.{needs}
 use Rattle.guavachisel.proofs.evaluation.guavachisel_evaluate.Statement.{statement}

@@ -1,4 +1,4 @@
--- `evaluation::outcome_of` has the outcome of each case.
+-- `guavachisel::evaluation::outcome_of` has the outcome of each case.
 use Rattle.evaluator.specs.declared.Outcome.the-variants.{Ran, Unread, Refused}
 use Rattle.guavachisel.proofs.Evaluations.{of-case}
 use borrow.Author.Needs.{needs}

@@ -1,4 +1,4 @@
--- `numbers::fault_number` answers by the case that its definition goes by.
+-- `guavachisel::numbers::fault_number` answers by the case that its definition goes by.
 use mathlib.Core.Path.{sym, ap}
 use Rattle.text_declaration.specs.Faults.{numberOf}
 use borrow.Author.Needs.{needs}

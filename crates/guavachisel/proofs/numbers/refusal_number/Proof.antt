@@ -1,4 +1,4 @@
--- `numbers::refusal_number` answers by the case that its definition goes by.
+-- `guavachisel::numbers::refusal_number` answers by the case that its definition goes by.
 use mathlib.Core.Path.{sym, ap}
 use Rattle.state.specs.Refusals.{numberOf}
 use borrow.Author.Needs.{needs}

@@ -1,4 +1,4 @@
--- `outcome::ran` has the reason's number in its place.
+-- `guavachisel::outcome::ran` has the reason's number in its place.
 use mathlib.Core.Path.{ap, _∙_}
 use Prim.Native.Nat.{ℕ}
 use borrow.Author.Needs.{needs}

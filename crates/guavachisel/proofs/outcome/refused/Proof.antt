@@ -1,4 +1,4 @@
--- `outcome::refused` has the refusal's number and place in theirs.
+-- `guavachisel::outcome::refused` has the refusal's number and place in theirs.
 use mathlib.Core.Path.{ap, _∙_}
 use Prim.Native.Nat.{ℕ}
 use Rattle.state.specs.Refusals.{numberOf}

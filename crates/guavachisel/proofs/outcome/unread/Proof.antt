@@ -1,4 +1,4 @@
--- `outcome::unread` has the fault's number in its place.
+-- `guavachisel::outcome::unread` has the fault's number in its place.
 use mathlib.Core.Path.{ap, _∙_}
 use Prim.Native.Nat.{ℕ}
 use borrow.Author.Needs.{needs}

@@ -1,4 +1,4 @@
--- `guavachisel_read` hands over each case of the reader's verdict.
+-- `guavachisel::reading::guavachisel_read` hands over each case of the reader's verdict.
 use mathlib.Core.Path.{sym, ap, _∙_}
 use Rattle.text_description.specs.Description.{Acceptance}
 use Rattle.text_description.proofs.Texts.{leaves-is}

@@ -1,4 +1,4 @@
--- `guavachisel_shipped` hands over the text of the number that has one.
+-- `guavachisel::shipping::guavachisel_shipped` hands over the text of the number that has one.
 use Rattle.guavachisel.proofs.Rooms.{described, undescribed}
 use borrow.Author.Needs.{needs}
 use Rattle.guavachisel.proofs.shipping.guavachisel_shipped.Statement.{statement}

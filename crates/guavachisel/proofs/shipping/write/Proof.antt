@@ -1,4 +1,4 @@
--- `shipping::write` writes a text where it fits.
+-- `guavachisel::shipping::write` writes a text where it fits.
 use Rattle.guavachisel.proofs.Rooms.{fits, too-long}
 use mathlib.Core.Path.{_∙_}
 use borrow.Author.Needs.{needs}

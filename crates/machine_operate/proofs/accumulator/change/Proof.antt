@@ -1,4 +1,4 @@
--- `operate::change` clears, then complements.
+-- `machine_operate::accumulator::change` clears, then complements.
 use mathlib.Core.Path.{ap, _∙_}
 use Prim.Native.Nat.{ℕ}
 use Rattle.machine_operate.specs.Operate.{complemented, linkComplemented}

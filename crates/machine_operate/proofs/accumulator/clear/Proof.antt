@@ -1,4 +1,4 @@
--- `operate::clear`: the code's test is the definition's.
+-- `machine_operate::accumulator::clear`: the code's test is the definition's.
 use borrow.Author.Tests.{eq-eqb, ne-eqb}
 use Rattle.machine_state.proofs.Lac.{ac-cleared}
 use borrow.Author.Needs.{needs}

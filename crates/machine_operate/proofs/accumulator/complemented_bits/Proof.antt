@@ -1,4 +1,4 @@
--- `operate::complemented_bits`: each arm has what the instruction with these bits alone complements.
+-- `machine_operate::accumulator::complemented_bits`: each arm has what the instruction with these bits alone complements.
 use mathlib.Core.Path.{refl}
 use native.Mathlib.Omega.{arith}
 use lib.Bits.{xor-zero-r}

@@ -1,4 +1,4 @@
--- `operate::kept`: each arm has what the instruction with these bits alone leaves.
+-- `machine_operate::accumulator::kept`: each arm has what the instruction with these bits alone leaves.
 use mathlib.Core.Path.{_∙_}
 use native.Mathlib.Omega.{arith}
 use lib.Bits.{and-zero-r}

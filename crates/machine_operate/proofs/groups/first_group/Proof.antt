@@ -1,4 +1,4 @@
--- `operate::first_group` changes, then increases and rotates, then makes the interrupt test.
+-- `machine_operate::groups::first_group` changes, then increases and rotates, then makes the interrupt test.
 use mathlib.Core.Path.{sym, ap, _∙_}
 use Prim.Native.Nat.{ℕ}
 use denote.Ref.{now}

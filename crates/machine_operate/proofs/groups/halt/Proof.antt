@@ -1,4 +1,4 @@
--- `operate::halt`: the code's test is the definition's.
+-- `machine_operate::groups::halt`: the code's test is the definition's.
 use borrow.Author.Tests.{eq-eqb, ne-eqb}
 use Rattle.machine_operate.proofs.groups.halt.Statement.{statement}
 use Rattle.machine_operate.proofs.groups.halt.Tie as tie

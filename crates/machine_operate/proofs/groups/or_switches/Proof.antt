@@ -1,4 +1,4 @@
--- `operate::or_switches`: the code's test is the definition's, and an or of two 12-bit words has 12 bits.
+-- `machine_operate::groups::or_switches`: the code's test is the definition's, and an or of two 12-bit words has 12 bits.
 use native.Mathlib.Omega.{arith}
 use Prim.Native.Nat.{_%_}
 use borrow.Author.Tests.{eq-eqb, ne-eqb}

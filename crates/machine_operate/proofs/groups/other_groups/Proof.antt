@@ -1,4 +1,4 @@
--- `operate::other_groups`: the code's test is the definition's.
+-- `machine_operate::groups::other_groups`: the code's test is the definition's.
 use mathlib.Core.Path.{ap}
 use mathlib.Core.Bool.{not}
 use borrow.Author.Tests.{eq-eqb, ne-eqb}

@@ -1,4 +1,4 @@
--- `operate::second_group`: the skip and the clear, then the switches and the halt where they are asked for, then the interrupt test.
+-- `machine_operate::groups::second_group`: the skip and the clear, then the switches and the halt where they are asked for, then the interrupt test.
 use mathlib.Core.Path.{ap, _∙_}
 use denote.Ref.{now}
 use Rattle.machine_state.specs.Interrupt.{interruptTest}

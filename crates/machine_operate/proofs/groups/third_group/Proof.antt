@@ -1,4 +1,4 @@
--- `operate::third_group` clears, then makes the interrupt test.
+-- `machine_operate::groups::third_group` clears, then makes the interrupt test.
 use mathlib.Core.Path.{ap, _∙_}
 use Prim.Native.Nat.{ℕ}
 use denote.Ref.{now}

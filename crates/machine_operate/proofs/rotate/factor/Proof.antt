@@ -1,4 +1,4 @@
--- `operate::factor`: each arm rotates as the instruction with these bits alone; any other rotates both ways or not at all.
+-- `machine_operate::rotate::factor`: each arm rotates as the instruction with these bits alone; any other rotates both ways or not at all.
 use mathlib.Core.Path.{_≡_, sym, _∙_}
 use native.Mathlib.Omega.{arith}
 use Rattle.machine_state.specs.Instruction.{flag}

@@ -1,4 +1,4 @@
--- `operate::increase_and_rotate`: the sum with bit 11 is the increase, and the product's two parts together are the rotation.
+-- `machine_operate::rotate::increase_and_rotate`: the sum with bit 11 is the increase, and the product's two parts together are the rotation.
 use mathlib.Core.Path.{ap, _∙_}
 use Prim.Native.Nat.{_+_, _/_, _%_}
 use native.Mathlib.Omega.{arith}

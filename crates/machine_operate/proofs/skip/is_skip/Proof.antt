@@ -1,4 +1,4 @@
--- `operate::is_skip`: the code's test is the definition's.
+-- `machine_operate::skip::is_skip`: the code's test is the definition's.
 use borrow.Author.Tests.{eq-eqb, ne-eqb}
 use Rattle.machine_operate.specs.Operate.{skips}
 use borrow.Author.Needs.{needs}

@@ -1,4 +1,4 @@
--- `operate::skip`: the code's test is the definition's.
+-- `machine_operate::skip::skip`: the code's test is the definition's.
 use borrow.Author.Needs.{needs}
 use Rattle.machine_operate.proofs.skip.skip.Statement.{statement}
 use Rattle.machine_operate.proofs.skip.skip.Tie as tie

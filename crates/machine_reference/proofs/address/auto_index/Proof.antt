@@ -1,4 +1,4 @@
--- `address::auto_index`: the code's test is the definition's.
+-- `machine_reference::address::auto_index`: the code's test is the definition's.
 use mathlib.Core.Path.{sym, ap, _∙_}
 use mathlib.Core.Bool.{Bool}
 use Prim.Native.Nat.{ℕ}

@@ -1,4 +1,4 @@
--- `address::first_address` joins the two parts that its definition joins.
+-- `machine_reference::address::first_address` joins the two parts that its definition joins.
 use mathlib.Core.Path.{ap₂, _∙_}
 use Rattle.machine_reference.specs.Address.{address, firstAddress}
 use Rattle.machine_reference.proofs.Addresses.{page-lt, pa-lt}

@@ -1,4 +1,4 @@
--- `address::indirect_address`: the word at the first address, after auto-indexing.
+-- `machine_reference::address::indirect_address`: the word at the first address, after auto-indexing.
 use mathlib.Core.Path.{ap}
 use denote.Ref.{now}
 use native.Mathlib.Omega.{arith}

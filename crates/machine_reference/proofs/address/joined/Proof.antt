@@ -1,4 +1,4 @@
--- `address::joined`: five bits and seven fit.
+-- `machine_reference::address::joined`: five bits and seven fit.
 use borrow.Author.Needs.{needs}
 use Rattle.machine_reference.proofs.address.joined.Statement.{statement}
 use Rattle.machine_reference.proofs.address.joined.Tie as tie

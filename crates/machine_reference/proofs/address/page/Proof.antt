@@ -1,4 +1,4 @@
--- `address::page`: the code's test is the definition's.
+-- `machine_reference::address::page`: the code's test is the definition's.
 use borrow.Author.Tests.{eq-eqb, ne-eqb}
 use Rattle.machine_reference.proofs.address.page.Statement.{statement}
 use Rattle.machine_reference.proofs.address.page.Tie as tie

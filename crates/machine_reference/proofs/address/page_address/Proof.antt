@@ -1,4 +1,4 @@
--- `address::page_address`: pa stands at the right end of the instruction.
+-- `machine_reference::address::page_address`: pa stands at the right end of the instruction.
 use borrow.Author.Needs.{needs}
 use Rattle.machine_reference.proofs.address.page_address.Statement.{statement}
 use Rattle.machine_reference.proofs.address.page_address.Tie as tie

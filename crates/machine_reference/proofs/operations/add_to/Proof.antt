@@ -1,4 +1,4 @@
--- `reference::add_to` is its operation, then the interrupt test.
+-- `machine_reference::operations::add_to` is its operation, then the interrupt test.
 use mathlib.Core.Path.{ap, _∙_}
 use Prim.Native.Nat.{ℕ, _+_, _%_, _^_}
 use denote.Ref.{now}

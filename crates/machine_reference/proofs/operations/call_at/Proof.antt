@@ -1,4 +1,4 @@
--- `reference::call_at` is its operation, then the interrupt test.
+-- `machine_reference::operations::call_at` is its operation, then the interrupt test.
 use mathlib.Core.Path.{ap, _∙_}
 use Prim.Native.Nat.{ℕ}
 use denote.Ref.{now}

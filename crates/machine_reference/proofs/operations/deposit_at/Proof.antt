@@ -1,4 +1,4 @@
--- `reference::deposit_at` is its operation, then the interrupt test.
+-- `machine_reference::operations::deposit_at` is its operation, then the interrupt test.
 use mathlib.Core.Path.{sym, ap, ap₂, _∙_}
 use Prim.Native.Nat.{ℕ, _*_, _/_}
 use denote.Ref.{now}

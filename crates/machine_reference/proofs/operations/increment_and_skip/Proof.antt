@@ -1,4 +1,4 @@
--- `reference::increment_and_skip`: the code's test is the definition's; the address is used twice and worked out once.
+-- `machine_reference::operations::increment_and_skip`: the code's test is the definition's; the address is used twice and worked out once.
 use mathlib.Core.Path.{ap, _∙_}
 use Prim.Native.Nat.{ℕ}
 use denote.Ref.{now}

@@ -1,4 +1,4 @@
--- `reference::jump_to` is its operation, then the interrupt test.
+-- `machine_reference::operations::jump_to` is its operation, then the interrupt test.
 use borrow.Author.Needs.{needs}
 use Rattle.machine_reference.proofs.operations.jump_to.Statement.{statement}
 use Rattle.machine_reference.proofs.operations.jump_to.Tie as tie

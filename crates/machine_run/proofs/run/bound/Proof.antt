@@ -1,4 +1,4 @@
--- `run::bound`: RUN is 0 or 1.
+-- `machine_run::run::bound`: RUN is 0 or 1.
 use native.Mathlib.Omega.{arith}
 use Rattle.machine_run.proofs.Runs.{bound-is, bound-le}
 use Rattle.machine_run.proofs.run.bound.Statement.{statement}

@@ -1,4 +1,4 @@
--- `run::run`: what is left of the budget, from the state that is reached, has the run of the whole.
+-- `machine_run::run::run`: what is left of the budget, from the state that is reached, has the run of the whole.
 use native.Mathlib.Nat.{sub-zero}
 use native.Mathlib.Omega.{arith}
 use borrow.Author.Needs.{needs}

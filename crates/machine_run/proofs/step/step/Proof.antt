@@ -1,4 +1,4 @@
--- `step::step` fetches, increases PC and goes by the op.
+-- `machine_run::step::step` fetches, increases PC and goes by the op.
 use mathlib.Core.Path.{_∙_}
 use denote.Ref.{now}
 use borrow.Author.Needs.{needs}

@@ -1,4 +1,4 @@
--- `interrupt::input_output`: the code's tests are the definition's.
+-- `machine_state::interrupt::input_output`: the code's tests are the definition's.
 use borrow.Author.Tests.{eq-eqb, ne-eqb}
 use Rattle.machine_state.specs.Interrupt.{inputOutput}
 use borrow.Author.Needs.{needs}

@@ -1,4 +1,4 @@
--- `interrupt::interrupt_test`: the code's test is the definition's.
+-- `machine_state::interrupt::interrupt_test`: the code's test is the definition's.
 use mathlib.Core.Path.{sym, ap, _∙_}
 use mathlib.Core.Bool.{_&&_}
 use mathlib.Core.List.{List}

@@ -1,4 +1,4 @@
--- `memory::load` reads the place that its definition names.
+-- `machine_state::memory::load` reads the place that its definition names.
 use borrow.Author.Needs.{needs}
 use Rattle.machine_state.proofs.memory.load.Statement.{statement}
 use Rattle.machine_state.proofs.memory.load.Tie as tie

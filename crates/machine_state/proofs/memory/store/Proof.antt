@@ -1,4 +1,4 @@
--- `memory::store` writes the place that its definition names.
+-- `machine_state::memory::store` writes the place that its definition names.
 use borrow.Author.Needs.{needs}
 use Rattle.machine_state.proofs.memory.store.Statement.{statement}
 use Rattle.machine_state.proofs.memory.store.Tie as tie

@@ -1,4 +1,4 @@
--- `memory::widened` changes no number.
+-- `machine_state::memory::widened` changes no number.
 use mathlib.Core.Path.{refl}
 use Rattle.machine_state.proofs.memory.widened.Statement.{statement}
 use Rattle.machine_state.proofs.memory.widened.Tie as tie

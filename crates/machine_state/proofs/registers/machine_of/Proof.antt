@@ -1,4 +1,4 @@
--- `machine::registers::machine_of`: each value goes to the register of its place.
+-- `machine_state::registers::machine_of`: each value goes to the register of its place.
 use borrow.Author.Needs.{needs}
 use Rattle.machine_state.proofs.Places.{values-machine}
 use Rattle.machine_state.proofs.registers.machine_of.Statement.{statement}

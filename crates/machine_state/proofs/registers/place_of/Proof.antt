@@ -1,4 +1,4 @@
--- `machine::registers::place_of`: register by register.
+-- `machine_state::registers::place_of`: register by register.
 use borrow.Author.Needs.{needs}
 use mathlib.Core.Path.{_≡_, sym, ap, _∙_}
 use mathlib.Core.List.{List}

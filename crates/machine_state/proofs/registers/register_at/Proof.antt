@@ -1,4 +1,4 @@
--- `machine::registers::register_at`: the constant table is the definition's.
+-- `machine_state::registers::register_at`: the constant table is the definition's.
 use native.Mathlib.Omega.{arith}
 use mathlib.Core.Path.{sym, ap, _∙_}
 use mathlib.Core.List.{List, [], _∷_}

@@ -1,4 +1,4 @@
--- `machine::registers::widths`: place by place.
+-- `machine_state::registers::widths`: place by place.
 use borrow.Author.Needs.{needs}
 use mathlib.Core.Path.{_≡_, refl, ap, ap₂, _∙_}
 use mathlib.Core.List.{List}

@@ -1,4 +1,4 @@
--- `cycles::run::reason` is its definition.
+-- `rows_cycles::run::reason` is its definition.
 use borrow.Author.Tests.{eq-eqb, ne-eqb}
 use Rattle.rows_cycles.proofs.run.reason.Statement.{statement}
 use Rattle.rows_cycles.proofs.run.reason.Tie as tie

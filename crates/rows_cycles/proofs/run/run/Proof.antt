@@ -1,4 +1,4 @@
--- `cycles::run::run`: cycle by cycle.
+-- `rows_cycles::run::run`: cycle by cycle.
 use mathlib.Core.Path.{refl}
 use mathlib.Core.Logic.{inl, inr}
 use Prim.Native.Nat.{_-_}

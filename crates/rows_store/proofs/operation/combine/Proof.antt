@@ -1,4 +1,4 @@
--- `operation::combine`: kind by kind.
+-- `rows_store::operation::combine`: kind by kind.
 use borrow.Author.Tests.{ne-eqb}
 use Rattle.rows_store.specs.Operation.{combined}
 use borrow.Author.Needs.{needs}

@@ -1,4 +1,4 @@
--- `operation::complement_of` is its definition.
+-- `rows_store::operation::complement_of` is its definition.
 use Rattle.rows_store.specs.Operation.{complementOf}
 use Rattle.rows_store.proofs.Remainders.{remainder}
 use borrow.Author.Needs.{needs}

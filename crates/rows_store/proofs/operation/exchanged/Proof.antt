@@ -1,4 +1,4 @@
--- `operation::exchanged`: the shifts are below 32.
+-- `rows_store::operation::exchanged`: the shifts are below 32.
 use Prim.Native.Nat.{ℕ, _+_, _*_, _/_, _%_, _^_, _≤_, _<_}
 use native.Mathlib.Nat.{mod-eq-of-lt, mod-le, div-le-self}
 use native.Mathlib.Omega.{arith}

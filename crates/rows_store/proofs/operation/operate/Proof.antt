@@ -1,4 +1,4 @@
--- `operation::operate`: kind by kind.
+-- `rows_store::operation::operate`: kind by kind.
 use borrow.Author.Tests.{eq-eqb, ne-eqb, lt-ltb, le-ltb}
 use Rattle.rows_store.specs.Operation.{operated}
 use borrow.Author.Needs.{needs}

@@ -1,4 +1,4 @@
--- `operation::places`: what is below the width stays.
+-- `rows_store::operation::places`: what is below the width stays.
 use mathlib.Core.Path.{sym}
 use native.Mathlib.Nat.{mod-eq-of-lt}
 use borrow.Author.Needs.{needs}

@@ -1,4 +1,4 @@
--- `operation::rotated_by`: by the way that it turns.
+-- `rows_store::operation::rotated_by`: by the way that it turns.
 use mathlib.Core.Path.{ap, _∙_}
 use Prim.Native.Nat.{ℕ, _-_}
 use native.Mathlib.Omega.{arith}

@@ -1,4 +1,4 @@
--- `shifts::joined_to` is its definition.
+-- `rows_store::shifts::joined_to` is its definition.
 use Rattle.rows_store.specs.Shifts.{joinedTo}
 use borrow.Author.Needs.{needs}
 use Rattle.rows_store.proofs.shifts.joined_to.Statement.{statement}

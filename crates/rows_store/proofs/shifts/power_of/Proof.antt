@@ -1,4 +1,4 @@
--- `shifts::power_of`: 1 shifted by fewer than 32 places loses nothing.
+-- `rows_store::shifts::power_of`: 1 shifted by fewer than 32 places loses nothing.
 use mathlib.Core.Path.{_∙_}
 use Prim.Native.Nat.{_^_, _%_}
 use native.Mathlib.Nat.{one-mul}

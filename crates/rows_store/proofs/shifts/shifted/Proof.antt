@@ -1,4 +1,4 @@
--- `shifts::shifted`: 16 bits shifted by fewer than 32 places lose nothing among 64.
+-- `rows_store::shifts::shifted`: 16 bits shifted by fewer than 32 places lose nothing among 64.
 use Prim.Native.Nat.{_+_, _*_, _^_, _%_, _<_}
 use native.Mathlib.Nat.{lt-of-lt-of-le}
 use native.Mathlib.Omega.{arith}

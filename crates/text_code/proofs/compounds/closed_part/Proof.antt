@@ -1,4 +1,4 @@
--- `compounds::closed_part`: by the byte that stands next.
+-- `text_code::compounds::closed_part`: by the byte that stands next.
 use mathlib.Core.Path.{sym, _∙_}
 use Prim.Native.Nat.{_+_}
 use native.Mathlib.Omega.{arith}

@@ -1,4 +1,4 @@
--- `compounds::complemented_part`: Not puts one word behind its operand.
+-- `text_code::compounds::complemented_part`: Not puts one word behind its operand.
 use Rattle.text_code.proofs.Making.{under-not}
 use borrow.Author.Needs.{needs}
 use Rattle.text_code.proofs.compounds.complemented_part.Statement.{statement}

@@ -1,4 +1,4 @@
--- `compounds::joined_part`: an operator puts one word behind its sides.
+-- `text_code::compounds::joined_part`: an operator puts one word behind its sides.
 use Rattle.text_code.proofs.Making.{joins, joins-not}
 use borrow.Author.Needs.{needs}
 use Rattle.text_code.proofs.compounds.joined_part.Statement.{statement}

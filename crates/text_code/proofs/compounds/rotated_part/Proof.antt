@@ -1,4 +1,4 @@
--- `compounds::rotated_part`: a rotation is one word, and its count one piece of two.
+-- `text_code::compounds::rotated_part`: a rotation is one word, and its count one piece of two.
 use mathlib.Core.Path.{_≡_, sym, ap, _∙_}
 use mathlib.Core.List.{List}
 use Prim.Native.Nat.{ℕ, _+_, _<_}

@@ -1,4 +1,4 @@
--- `compounds::width_in`: the table's kind, and the width by it.
+-- `text_code::compounds::width_in`: the table's kind, and the width by it.
 use mathlib.Core.Path.{ap, _∙_}
 use Rattle.text_operators.specs.declared.Entry.{Entry}
 use Rattle.text_operators.specs.Operators.{widthBy}

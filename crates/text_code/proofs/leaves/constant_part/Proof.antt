@@ -1,4 +1,4 @@
--- `leaves::constant_part`: a constant is one word.
+-- `text_code::leaves::constant_part`: a constant is one word.
 use mathlib.Core.Path.{_≡_, refl, sym, ap, _∙_}
 use mathlib.Core.List.{List, [], _∷_}
 use Prim.Native.Nat.{ℕ, _+_}

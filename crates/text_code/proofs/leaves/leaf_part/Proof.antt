@@ -1,4 +1,4 @@
--- `leaves::leaf_part`: by its width.
+-- `text_code::leaves::leaf_part`: by its width.
 use mathlib.Core.Path.{refl}
 use mathlib.Core.List.{[], _∷_}
 use Rattle.text_code.proofs.Parts.{leaf, wide-leaf}

@@ -1,4 +1,4 @@
--- `leaves::reference_part`: a register or a bit part is one word.
+-- `text_code::leaves::reference_part`: a register or a bit part is one word.
 use mathlib.Core.Path.{_≡_, refl, sym, ap, _∙_}
 use mathlib.Core.Bool.{true}
 use mathlib.Core.List.{List, [], _∷_}

@@ -1,4 +1,4 @@
--- `lines::add_label`: the dictionary has the label that stands in the text.
+-- `text_declaration::lines::add_label`: the dictionary has the label that stands in the text.
 use Rattle.text_declaration.proofs.Declarations.{one-label, no-label, bad-label}
 use borrow.Author.Needs.{needs}
 use Rattle.text_declaration.proofs.lines.add_label.Statement.{statement}

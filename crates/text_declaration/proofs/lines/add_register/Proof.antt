@@ -1,4 +1,4 @@
--- `lines::add_register`: the dictionary has the name that stands in the text.
+-- `text_declaration::lines::add_register`: the dictionary has the name that stands in the text.
 use mathlib.Core.Path.{ap, _∙_}
 use Rattle.text_declaration.specs.Lines.{widthOf}
 use Rattle.text_declaration.proofs.Declarations.{one-register, no-register, bad-register}

@@ -1,4 +1,4 @@
--- `lines::at_line`: the label stands behind `at` and a TAB.
+-- `text_declaration::lines::at_line`: the label stands behind `at` and a TAB.
 use mathlib.Core.Path.{sym, _∙_}
 use native.Mathlib.Omega.{arith}
 use Rattle.text_declaration.specs.declared.faults.Fault.the-variants.{Line}

@@ -1,4 +1,4 @@
--- `lines::is_among`: its place is one of the names.
+-- `text_declaration::lines::is_among`: its place is one of the names.
 use mathlib.Core.Path.{sym, ap}
 use lib.Dec.{ltb}
 use Rattle.text_names.proofs.Entries.{entries-length}

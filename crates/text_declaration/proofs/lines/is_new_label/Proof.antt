@@ -1,4 +1,4 @@
--- `lines::is_new_label`: the three tests.
+-- `text_declaration::lines::is_new_label`: the three tests.
 use borrow.Author.Needs.{needs}
 use Rattle.text_declaration.proofs.lines.is_new_label.Statement.{statement}
 use Rattle.text_declaration.proofs.lines.is_new_label.Tie as tie

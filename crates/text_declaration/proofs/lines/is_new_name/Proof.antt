@@ -1,4 +1,4 @@
--- `lines::is_new_name`: the three tests.
+-- `text_declaration::lines::is_new_name`: the three tests.
 use borrow.Author.Needs.{needs}
 use Rattle.text_declaration.proofs.lines.is_new_name.Statement.{statement}
 use Rattle.text_declaration.proofs.lines.is_new_name.Tie as tie

@@ -1,4 +1,4 @@
--- `lines::is_width`: case by case.
+-- `text_declaration::lines::is_width`: case by case.
 use borrow.Author.Needs.{needs}
 use Rattle.text_declaration.proofs.lines.is_width.Statement.{statement}
 use Rattle.text_declaration.proofs.lines.is_width.Tie as tie

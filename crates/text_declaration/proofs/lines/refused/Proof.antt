@@ -1,4 +1,4 @@
--- `lines::refused`: nothing is added, and the fault is told.
+-- `text_declaration::lines::refused`: nothing is added, and the fault is told.
 use mathlib.Core.Path.{refl}
 use Rattle.text_declaration.proofs.lines.refused.Statement.{statement}
 use Rattle.text_declaration.proofs.lines.refused.Tie as tie

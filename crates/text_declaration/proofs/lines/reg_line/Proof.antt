@@ -1,4 +1,4 @@
--- `lines::reg_line`: the name stands behind `reg` and a TAB.
+-- `text_declaration::lines::reg_line`: the name stands behind `reg` and a TAB.
 use mathlib.Core.Path.{ap, _∙_}
 use mathlib.Core.Bool.{Bool, _&&_}
 use Prim.Native.Nat.{_+_}

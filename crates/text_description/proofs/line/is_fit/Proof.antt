@@ -1,4 +1,4 @@
--- `line::is_fit`: the three tests.
+-- `text_description::line::is_fit`: the three tests.
 use mathlib.Core.Path.{ap, _∙_}
 use mathlib.Core.Bool.{_&&_}
 use Prim.Native.Nat.{ℕ}

@@ -1,4 +1,4 @@
--- `line::read_line`: by the first word.
+-- `text_description::line::read_line`: by the first word.
 use mathlib.Core.Path.{sym, ap, _∙_}
 use mathlib.Core.List.{List}
 use Prim.Native.Nat.{ℕ}

@@ -1,4 +1,4 @@
--- `reader::has_run`: the place of RUN, and its width.
+-- `text_description::reader::has_run`: the place of RUN, and its width.
 use Rattle.text_description.proofs.Texts.{run-found}
 use borrow.Author.Needs.{needs}
 use Rattle.text_description.proofs.reader.has_run.Statement.{statement}

@@ -1,4 +1,4 @@
--- `reader::read`: what an accepted text leaves, and the tables emptied after a refusal.
+-- `text_description::reader::read`: what an accepted text leaves, and the tables emptied after a refusal.
 use mathlib.Core.Path.{refl}
 use borrow.Author.Needs.{needs}
 use Rattle.text_description.proofs.Texts.{leaves-accepted, leaves-refused}

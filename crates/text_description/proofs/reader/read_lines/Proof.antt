@@ -1,4 +1,4 @@
--- `reader::read_lines`: line by line, with the rows behind what was read so far.
+-- `text_description::reader::read_lines`: line by line, with the rows behind what was read so far.
 use mathlib.Core.Path.{refl}
 use native.Mathlib.Omega.{arith}
 use lib.ListN.{length}

@@ -1,4 +1,4 @@
--- `reader::read_text`: size, header, then the lines.
+-- `text_description::reader::read_text`: size, header, then the lines.
 use mathlib.Core.Path.{sym, ap, _∙_}
 use mathlib.Core.List.{List}
 use Prim.Native.Nat.{ℕ}

@@ -1,4 +1,4 @@
--- `reader::start`: two dictionaries without names.
+-- `text_description::reader::start`: two dictionaries without names.
 use borrow.Author.Needs.{needs}
 use Rattle.text_description.proofs.reader.start.Statement.{statement}
 use Rattle.text_description.proofs.reader.start.Tie as tie

@@ -1,4 +1,4 @@
--- `reader::turned_down`: no registers, no rows, the fault and its line.
+-- `text_description::reader::turned_down`: no registers, no rows, the fault and its line.
 use mathlib.Core.Path.{ap}
 use borrow.Author.Needs.{needs}
 use Rattle.text_names.specs.declared.Dictionary.{Dictionary}

@@ -1,4 +1,4 @@
--- `reader::verdict_of` is the definition, case by case.
+-- `text_description::reader::verdict_of` is the definition, case by case.
 use mathlib.Core.Path.{sym, _∙_}
 use borrow.Author.Tests.{eq-eqb, ne-eqb}
 use Rattle.text_description.proofs.Texts.{label-missing, all-there, no-run}

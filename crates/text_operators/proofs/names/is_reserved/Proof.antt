@@ -1,4 +1,4 @@
--- `names::is_reserved` is its definition, read off the calls.
+-- `text_operators::names::is_reserved` is its definition, read off the calls.
 use borrow.Author.Needs.{needs}
 use Rattle.text_operators.proofs.names.is_reserved.Statement.{statement}
 use Rattle.text_operators.proofs.names.is_reserved.Tie as tie

@@ -1,4 +1,4 @@
--- `names::operator_row`: name by name.
+-- `text_operators::names::operator_row`: name by name.
 use mathlib.Core.Path.{_≡_, sym, _∙_}
 use Prim.Native.Nat.{ℕ, suc, _+_}
 use native.Mathlib.Omega.{arith}

@@ -1,4 +1,4 @@
--- `names::row_from_4`: name by name.
+-- `text_operators::names::row_from_4`: name by name.
 use mathlib.Core.Path.{_≡_, sym, _∙_}
 use Prim.Native.Nat.{ℕ, suc, _+_}
 use native.Mathlib.Omega.{arith}

@@ -1,4 +1,4 @@
--- `names::row_from_7`: name by name.
+-- `text_operators::names::row_from_7`: name by name.
 use mathlib.Core.Path.{sym, _∙_}
 use Rattle.text_operators.specs.OperatorNames.{findIn}
 use borrow.Author.Needs.{needs}

@@ -1,4 +1,4 @@
--- `actions::aim_of` is its definition, case by case.
+-- `text_rows::actions::aim_of` is its definition, case by case.
 use native.Mathlib.Omega.{arith}
 use borrow.Author.Needs.{needs}
 use Rattle.text_rows.proofs.actions.aim_of.Statement.{statement}

@@ -1,4 +1,4 @@
--- `actions::read_action`: destination and value, one behind the other.
+-- `text_rows::actions::read_action`: destination and value, one behind the other.
 use mathlib.Core.Path.{refl, sym, ap, _∙_}
 use mathlib.Core.Bool.{true}
 use native.Mathlib.Omega.{arith}

@@ -1,4 +1,4 @@
--- `actions::read_aim`: the cells of the place that was read.
+-- `text_rows::actions::read_aim`: the cells of the place that was read.
 use mathlib.Core.Path.{sym, subst}
 use Rattle.text_names.specs.Dictionaries.{entries}
 use Rattle.text_expression.specs.Expression.{destination}

@@ -1,4 +1,4 @@
--- `actions::read_row`: the condition, then the rest.
+-- `text_rows::actions::read_row`: the condition, then the rest.
 use mathlib.Core.Path.{refl, sym, ap, _∙_}
 use native.Mathlib.Omega.{arith}
 use Rattle.laws.proofs.Tests.{not-so}

@@ -1,4 +1,4 @@
--- `cells::go_cells`: the cells, one by one.
+-- `text_rows::cells::go_cells`: the cells, one by one.
 use mathlib.Core.Path.{refl}
 use borrow.Author.Needs.{needs}
 use Rattle.text_rows.proofs.cells.go_cells.Statement.{statement}

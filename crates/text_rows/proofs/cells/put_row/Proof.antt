@@ -1,4 +1,4 @@
--- `cells::put_row`: cell by cell.
+-- `text_rows::cells::put_row`: cell by cell.
 use mathlib.Core.Path.{_≡_, refl, ap, _∙_}
 use mathlib.Core.List.{List}
 use Prim.Native.Nat.{ℕ, _+_, _-_, _*_, _≤_}

@@ -1,4 +1,4 @@
--- `rows::add_go`: the row of a `go`, if its label is a name.
+-- `text_rows::rows::add_go`: the row of a `go`, if its label is a name.
 use mathlib.Core.Path.{sym, _∙_}
 use Rattle.text_fields.specs.Fields.{field, lines}
 use Rattle.text_rows.proofs.RowLines.{jumps, jumps-nowhere}

@@ -1,4 +1,4 @@
--- `rows::add_read`: the row, if one was read.
+-- `text_rows::rows::add_read`: the row, if one was read.
 use borrow.Author.Needs.{needs}
 use Rattle.laws.proofs.Tests.{not-so}
 use Rattle.text_rows.proofs.rows.add_read.Statement.{statement}

@@ -1,4 +1,4 @@
--- `rows::add_row`: the cells are stored if there is room.
+-- `text_rows::rows::add_row`: the cells are stored if there is room.
 use borrow.Author.Tests.{ltb-true}
 use Rattle.laws.proofs.Joined.{and-left}
 use borrow.Author.Needs.{needs}

@@ -1,4 +1,4 @@
--- `rows::do_line`: the row that was read, if there is room for it.
+-- `text_rows::rows::do_line`: the row that was read, if there is room for it.
 use mathlib.Core.Path.{sym, _∙_}
 use native.Mathlib.Omega.{arith}
 use Rattle.text_declaration.specs.declared.faults.Fault.the-variants.{Line}

@@ -1,4 +1,4 @@
--- `rows::go_line`: condition, label, and the row if there is room for it.
+-- `text_rows::rows::go_line`: condition, label, and the row if there is room for it.
 use mathlib.Core.Path.{sym, ap, _∙_}
 use native.Mathlib.Omega.{arith}
 use Rattle.text_fields.specs.Fields.{lines}

@@ -1,4 +1,4 @@
--- `rows::missing_at` is its definition, case by case.
+-- `text_rows::rows::missing_at` is its definition, case by case.
 use borrow.Author.Tests.{eq-eqb, ne-eqb}
 use borrow.Author.Needs.{needs}
 use Rattle.text_rows.proofs.rows.missing_at.Statement.{statement}

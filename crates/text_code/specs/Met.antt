@@ -6,6 +6,7 @@ use Prim.Native.Nat.{ℕ, _+_, _*_, _≤_, _<_}
 use lib.ListN.{length}
 use lib.Seq.{sets}
 use Rattle.word.specs.Word.{widest}
+use Rattle.text_limits.specs.Limits.{allPieces, longestLine}
 use Rattle.text_code.specs.declared.Cursor.{Cursor}
 use Rattle.text_code.specs.declared.Part.{Part}
 use Rattle.text_code.specs.declared.Part.the-variants.{Found, Fault}
@@ -15,7 +16,7 @@ use Rattle.text_code.specs.Code.{codeOf}
 
 -- how many words the table holds: 1,024 pieces, and a line of 200 bytes, each of which makes at most one
 abbrev pub capacity : ℕ
-capacity = 1224
+capacity = allPieces + longestLine
 
 -- a tree that was read from a cursor on: where it ends, its width, its pieces and words counted, and its words in the table
 pub record Held (t : Expr) (p : ℕ) (c : Cursor) (w : ℕ) (from : Cursor) (before after : List ℕ) : Type 0 where

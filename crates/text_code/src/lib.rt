@@ -4,6 +4,8 @@ pub mod kinds;
 pub mod leaves;
 pub mod row_table;
 
+use text_limits::ALL_PIECES;
+use text_limits::LONGEST_LINE;
 ghost use mathlib.Core.Path.{_≡_};
 ghost use mathlib.Core.List.{[], _∷_};
 ghost use Prim.Native.Nat.{_+_, _*_, _≤_, _<_};
@@ -11,7 +13,7 @@ ghost use lib.Seq.{sets};
 ghost use Rattle.text_code.specs.Met.{capacity};
 
 // The places of the table of words: four for each of 1,024 pieces, and for each byte of a line of 200.
-pub const CODE_PLACES: usize = 4896;
+pub const CODE_PLACES: usize = 4 * (ALL_PIECES + LONGEST_LINE);
 
 // "No width may pass 16"
 pub const WIDEST: u16 = 16;

@@ -17,7 +17,7 @@ pub struct Coverage {
     /// The address that the last store went to, if no step began after it.
     just_stored: Option<u16>,
     /// How often each of EVENTS happened.
-    events: [u64; 8],
+    events: [u64; 9],
 }
 
 /// Places in EVENTS.
@@ -29,8 +29,9 @@ const INTERRUPT: usize = 4;
 const LAST_WORD: usize = 5;
 const BESIDE_POINTERS: usize = 6;
 const JUST_REWRITTEN: usize = 7;
+const HALT_PENDING: usize = 8;
 
-const EVENTS: [&str; 8] = [
+const EVENTS: [&str; 9] = [
     "a page taken from the last word of a page",
     "a pointer increased",
     "a word rewritten by the run executed",
@@ -39,11 +40,12 @@ const EVENTS: [&str; 8] = [
     "PC from 7777 to 0000",
     "an indirect 0007 or 0020",
     "a word rewritten by the step before executed",
+    "a halt with an interrupt pending",
 ];
 
 impl Coverage {
     pub fn new() -> Coverage {
-        Coverage { counts: BTreeMap::new(), words: vec![0; 4096], explained: vec![0; 4096], stored: vec![false; 4096], just_stored: None, events: [0; 8] }
+        Coverage { counts: BTreeMap::new(), words: vec![0; 4096], explained: vec![0; 4096], stored: vec![false; 4096], just_stored: None, events: [0; 9] }
     }
 
     pub fn count(&mut self, name: &str) {
@@ -264,6 +266,7 @@ impl Watch for Coverage {
             }
             Event::Skipped => self.events[SKIP] += 1,
             Event::Interrupted => self.events[INTERRUPT] += 1,
+            Event::HaltedPending => self.events[HALT_PENDING] += 1,
         }
     }
 }

@@ -77,7 +77,7 @@ pub fn store<W: Watch>(memory: &mut Memory, address: u16, word: u16, watch: &mut
     memory[(address & WORD) as usize] = word;
 }
 
-/// One step: fetch, PC + 1, execute, interrupt test.
+/// One step: fetch, PC + 1, execute, interrupt test, which 6001 and a halt omit.
 #[inline(always)]
 pub fn step<W: Watch>(memory: &mut Memory, machine: &mut Machine, watch: &mut W) {
     let i = word_at(memory, machine.pc);
@@ -88,16 +88,29 @@ pub fn step<W: Watch>(memory: &mut Memory, machine: &mut Machine, watch: &mut W)
         6 => {
             if i == 0o6001 {
                 machine.interrupt_enable = 1;
-                return; // this step's interrupt test is omitted
+                return; // 6001: no interrupt test
             }
             if i == 0o6002 {
                 machine.interrupt_enable = 0;
             }
         }
-        7 => operate(machine, i, watch),
+        7 => {
+            operate(machine, i, watch);
+            if machine.run == 0 {
+                halted(machine, watch);
+                return; // a halt: no interrupt test
+            }
+        }
         _ => memory_reference(memory, machine, i, last_pc, watch),
     }
     interrupt_test(memory, machine, watch);
+}
+
+#[inline(always)]
+fn halted<W: Watch>(machine: &Machine, watch: &mut W) {
+    if machine.interrupt_enable & machine.interrupt_request == 1 {
+        watch.saw(Event::HaltedPending);
+    }
 }
 
 #[inline(always)]

@@ -15,6 +15,8 @@ pub enum Event {
     Skipped,
     /// The interrupt test found both registers 1.
     Interrupted,
+    /// A step set RUN to 0 with both registers 1.
+    HaltedPending,
 }
 
 pub trait Watch {

@@ -1,4 +1,4 @@
 # 6001 does not omit its step's interrupt test.
 # areas: emulate
 # file: harness/independent/machine.rs
-/return; \/\/ this/d
+/return; \/\/ 6001/d

@@ -1,7 +1,7 @@
 -- "at most three such lines": a step stores at most a word that it indexes by, the word that its op works on, and PC where it is interrupted.
 -- Assumes nothing.
 use mathlib.Core.Path.{sym, subst}
-use mathlib.Core.Bool.{_&&_}
+use mathlib.Core.Bool.{Bool}
 use mathlib.Core.List.{List}
 use Prim.Native.Nat.{ℕ, _+_, _≤_}
 use native.Mathlib.Omega.{arith}
@@ -12,12 +12,12 @@ use Rattle.word.specs.Word.{next}
 use Rattle.word.proofs.Choice.{pick-either}
 use Rattle.machine_state.specs.State.{State, word, withPc, withMemory, ac}
 use Rattle.machine_state.specs.Instruction.{op, flag}
-use Rattle.machine_state.specs.Interrupt.{ion, iof, interruptTest, inputOutput}
+use Rattle.machine_state.specs.Interrupt.{takesInterrupt, interruptTest, testedIf, ion, iof, inputOutput}
 use Rattle.machine_operate.specs.Operate.{group1, group2, group3, operate}
 use Rattle.machine_reference.specs.Address.{firstAddress, isIndex, indexed, effective, afterIndexing}
 use Rattle.machine_reference.specs.Reference.{operation, reference}
 use Rattle.machine_reference.proofs.Ops.{by-op}
-use Rattle.machine_run.specs.Step.{execute, step}
+use Rattle.machine_run.specs.Step.{execute, makesTest, step}
 use Rattle.desk_last_step.specs.LastStep.{changeLines}
 use Rattle.desk_last_step.specs.Sizes.{wordLineBytes, changeLinesBytes}
 use Rattle.desk_last_step.proofs.Changes.{unchanged, stored-size}
@@ -39,7 +39,10 @@ module _ (before : List ℕ) (n : ℕ) where
   interrupt-few : (s : State) → FewIn before n s → FewIn before (n + wordLineBytes) (interruptTest s)
   unfolding interruptTest
   interrupt-few s h =
-      pick-either (FewIn before (n + wordLineBytes)) (on (s .enable) && on (s .request)) (stores (s .memory) 0 (s .pc) h) (more (s .memory) h)
+      pick-either (FewIn before (n + wordLineBytes)) (takesInterrupt s) (stores (s .memory) 0 (s .pc) h) (more (s .memory) h)
+
+  tested-few : (made : Bool) (s : State) → FewIn before n s → FewIn before (n + wordLineBytes) (testedIf made s)
+  tested-few made s h = pick-either (FewIn before (n + wordLineBytes)) made (interrupt-few s h) (more (s .memory) h)
 
   indexed-few : (a : ℕ) (memory : List ℕ) → Few before n memory → Few before (n + wordLineBytes) (indexed a memory)
   unfolding indexed
@@ -72,19 +75,19 @@ reference-few before n i last s h =
     operation-few before (n + wordLineBytes) (op i) (effective i last (s .memory)) (withMemory (afterIndexing i last (s .memory)) s)
     (indexing-few before n i last (s .memory) h)
 
-inputOutput-few : (before : List ℕ) (n i : ℕ) (s : State) → FewIn before n s → FewIn before (n + wordLineBytes) (inputOutput i s)
+inputOutput-few : (before : List ℕ) (n i : ℕ) (s : State) → FewIn before n s → FewIn before n (inputOutput i s)
 unfolding inputOutput
-inputOutput-few before n i s h =
-    pick-either (FewIn before (n + wordLineBytes)) (eqb i ion) (more before n (s .memory) h)
-    (interrupt-few before n _ (pick-either (FewIn before n) (eqb i iof) h h))
+inputOutput-few before n i s h = pick-either (FewIn before n) (eqb i ion) h (pick-either (FewIn before n) (eqb i iof) h h)
 
-execute-few : (before : List ℕ) (i last : ℕ) (s : State) → FewIn before 0 s → FewIn before changeLinesBytes (execute i last s)
+execute-few : (before : List ℕ) (n i last : ℕ) (s : State) → FewIn before n s → FewIn before (n + wordLineBytes + wordLineBytes) (execute i last s)
 unfolding execute
-execute-few before i last s h =
-    pick-either (FewIn before changeLinesBytes) (eqb (op i) 6) (omega (arith, inputOutput-few before 0 i s h))
-    (interrupt-few before 40 _
-    (pick-either (FewIn before 40) (eqb (op i) 7) (omega (arith, operate-few before 0 i s h)) (reference-few before 0 i last s h)))
+execute-few before n i last s h =
+    let P = FewIn before (n + wordLineBytes + wordLineBytes) in
+    pick-either P (eqb (op i) 6) (omega (arith, inputOutput-few before n i s h))
+    (pick-either P (eqb (op i) 7) (omega (arith, operate-few before n i s h)) (reference-few before n i last s h))
 
 pub step-few : (s : State) → length (changeLines 0 (s .memory) (step s .memory)) ≤ changeLinesBytes
 unfolding step
-step-few s = execute-few (s .memory) (word (s .pc) s) (s .pc) (withPc (next (s .pc)) s) (omega (arith, unchanged 0 (s .memory)))
+step-few s =
+    let i : ℕ = word (s .pc) s in
+    tested-few (s .memory) 40 (makesTest i) _ (execute-few (s .memory) 0 i (s .pc) (withPc (next (s .pc)) s) (omega (arith, unchanged 0 (s .memory))))

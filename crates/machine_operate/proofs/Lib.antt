@@ -3,3 +3,4 @@ pub mod Masks
 pub mod Rotated
 pub mod Skipped
 pub mod Keeps
+pub mod Halts

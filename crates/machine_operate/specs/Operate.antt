@@ -81,6 +81,10 @@ group2 i s =
     (withLac (switched i (s .switches) (cleared i (s .lac)))
     (withRun (pick (on (flag 10 i)) 0 (s .run)) s))
 
+-- whether an instruction of op 7 does so
+unfoldable pub clearsRun : ℕ → Bool
+clearsRun i = on (flag 3 i) && not (on (flag 11 i)) && on (flag 10 i)
+
 -- ---- "With bit 11 = 1 bit 4 clears AC, and that is all"
 
 unfoldable pub group3 : ℕ → State → State

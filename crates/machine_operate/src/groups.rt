@@ -1,4 +1,4 @@
-// The three groups, each with the step's interrupt test at its end.
+// The three groups, each with the step's interrupt test at its end, which a halt omits.
 use crate::accumulator::change;
 use crate::accumulator::clear;
 use crate::rotate::increase_and_rotate;
@@ -7,14 +7,15 @@ use machine_state::Processor;
 use machine_state::interrupt::interrupt_test;
 use word::WORD_VALUES;
 ghost use mathlib.Core.Path.{_≡_};
+ghost use mathlib.Core.Bool.{not};
 ghost use Prim.Native.Nat.{_^_, _<_};
-ghost use Rattle.word.specs.Choice.{on, pick};
+ghost use Rattle.word.specs.Choice.{on};
 ghost use Rattle.word.specs.Word.{wordBits};
 ghost use Rattle.machine_state.specs.Instruction.{flag};
 ghost use Rattle.machine_state.specs.State.{lacBits, Good};
 ghost use Rattle.machine_state.specs.Processor.{at};
-ghost use Rattle.machine_state.specs.Interrupt.{interruptTest};
-ghost use Rattle.machine_operate.specs.Operate.{switched, group2, group3, operate};
+ghost use Rattle.machine_state.specs.Interrupt.{interruptTest, testedIf};
+ghost use Rattle.machine_operate.specs.Operate.{switched, group2, group3, clearsRun, operate};
 
 const OSR: u64 = 0o4;
 
@@ -34,13 +35,6 @@ fn or_switches(i: u64, switches: u64, lac: u64) -> u64
     }
 }
 
-// Bit 10 sets RUN to 0.
-fn halt(i: u64, run: u64) -> u64
-    ensures { λ r. ⌜ r ≡ pick (on (flag 10 i)) 0 run ⌝ }
-{
-    if i / HLT % 2 != 0 { 0 } else { run }
-}
-
 // Op 7, bit 3 = 0.
 pub fn first_group(memory: &mut [u16], p: Processor, i: u64) -> Processor
     requires { ⌜ Good (at p (now memory)) ⌝ ∗ ⌜ flag 3 i ≡ 0 ⌝ }
@@ -51,10 +45,10 @@ pub fn first_group(memory: &mut [u16], p: Processor, i: u64) -> Processor
     interrupt_test(memory, q)
 }
 
-// Op 7, bit 3 = 1, bit 11 = 0. Few instructions ask for SWITCHES or a halt.
+// Op 7, bit 3 = 1, bit 11 = 0. Few instructions ask for SWITCHES or a halt. Bit 10 sets RUN to 0.
 fn second_group(memory: &mut [u16], p: Processor, i: u64) -> Processor
     requires { ⌜ Good (at p (now memory)) ⌝ }
-    ensures { λ r. ⌜ at r (now (memory .exit)) ≡ interruptTest (group2 i (at p (now (memory .entry)))) ⌝ }
+    ensures { λ r. ⌜ at r (now (memory .exit)) ≡ testedIf (not (on (flag 10 i))) (group2 i (at p (now (memory .entry)))) ⌝ }
 {
     let mut q = p;
     q.pc = skip(i, p.lac, p.pc);
@@ -63,7 +57,10 @@ fn second_group(memory: &mut [u16], p: Processor, i: u64) -> Processor
         return interrupt_test(memory, q);
     }
     q.lac = or_switches(i, p.switches, clear(i, p.lac));
-    q.run = halt(i, p.run);
+    if i / HLT % 2 != 0 {
+        q.run = 0;
+        return q;
+    }
     interrupt_test(memory, q)
 }
 
@@ -80,7 +77,7 @@ fn third_group(memory: &mut [u16], p: Processor, i: u64) -> Processor
 // Op 7, bit 3 = 1: bit 11 tells the third group from the second.
 pub fn other_groups(memory: &mut [u16], p: Processor, i: u64) -> Processor
     requires { ⌜ Good (at p (now memory)) ⌝ ∗ ⌜ flag 3 i ≡ 1 ⌝ }
-    ensures { λ r. ⌜ at r (now (memory .exit)) ≡ interruptTest (operate i (at p (now (memory .entry)))) ⌝ }
+    ensures { λ r. ⌜ at r (now (memory .exit)) ≡ testedIf (not (clearsRun i)) (operate i (at p (now (memory .entry)))) ⌝ }
 {
     if i / THIRD % 2 != 0 {
         third_group(memory, p, i)

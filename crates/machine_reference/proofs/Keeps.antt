@@ -1,6 +1,6 @@
--- Ops 0 to 5 keep words and registers within their widths.
+-- Ops 0 to 5 keep words and registers within their widths, and leave RUN.
 -- Assumes nothing.
-use mathlib.Core.Path.{sym, subst}
+use mathlib.Core.Path.{_≡_, refl, sym, subst}
 use Prim.Native.Nat.{ℕ, _+_, _^_, _<_}
 use lib.Bits.{bitAnd}
 use lib.Dec.{eqb}
@@ -32,3 +32,12 @@ operation-good n e {s} h g =
 pub reference-good : (i last : ℕ) {s : State} → Good s → Good (reference i last s)
 unfolding reference
 reference-good i last {s} g = operation-good (op i) (effective i last (s .memory)) (effective-lt i last (g .memory)) (indexing-good i last g)
+
+pub reference-run : (i last : ℕ) (s : State) → reference i last s .run ≡ s .run
+unfolding reference
+reference-run i last s =
+    let P : State → Type 0 = λ (x : State). x .run ≡ s .run in
+    subst P (sym (by-op (op i) (effective i last (s .memory)) _))
+    (pick-either P (eqb (op i) 0) refl
+    (pick-either P (eqb (op i) 1) refl
+    (pick-either P (eqb (op i) 2) refl (pick-either P (eqb (op i) 3) refl (pick-either P (eqb (op i) 4) refl refl)))))

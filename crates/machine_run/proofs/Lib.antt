@@ -1,3 +1,6 @@
+pub mod Tested
+pub mod Halts
+pub mod Changed
 pub mod Keeps
 pub mod Marked
 pub mod Runs

@@ -1,22 +1,24 @@
--- The three ways through a step: the instruction i that was fetched, with PC increased to n, by its op, which its bits 0 to 3 tell.
+-- The ways through a step: the instruction i that was fetched, with PC increased to n, by its op, which its bits 0 to 3 tell.
 -- Assumes nothing.
 use mathlib.Core.Path.{_≡_, sym, ap, _∙_}
 use Prim.Native.Nat.{ℕ, _/_, _%_, _<_}
 use native.Mathlib.Omega.{arith}
 use borrow.Author.Tests.{ne-eqb}
 use lib.Dec.{eqb}
-use mathlib.Core.Bool.{false}
+use mathlib.Core.Bool.{Bool, false, not}
 use Rattle.word.specs.Choice.{pick}
 use Rattle.word.specs.Word.{wordBits, bits, next}
 use Rattle.word.proofs.Choice.{case-true, case-false}
 use Rattle.word.proofs.Next.{next-lt}
 use Rattle.machine_state.specs.State.{State, Good, word, withPc}
 use Rattle.machine_state.specs.Instruction.{op, flag}
-use Rattle.machine_state.specs.Interrupt.{interruptTest, inputOutput}
+use Rattle.machine_state.specs.Interrupt.{interruptTest, testedIf, ion, inputOutput}
 use Rattle.machine_state.proofs.Keeps.{pc-good}
-use Rattle.machine_operate.specs.Operate.{operate}
+use Rattle.machine_operate.specs.Operate.{clearsRun, operate}
+use Rattle.machine_operate.proofs.Halts.{first-runs-on}
 use Rattle.machine_reference.specs.Reference.{reference}
-use Rattle.machine_run.specs.Step.{execute, step}
+use Rattle.machine_run.specs.Step.{execute, makesTest, step}
+use Rattle.machine_run.proofs.Tested.{tested-by-op}
 
 -- bits 0 to 3 are op and one bit more
 pub op-of : (i n : ℕ) → bits wordBits 0 3 i ≡ n → op i ≡ n / 2
@@ -36,25 +38,32 @@ pub counted-good : (s : State) (n : ℕ) → n ≡ next (s .pc) → Good s → G
 counted-good s n increased g = rw increased (pc-good (next-lt (s .pc)) g)
 
 module _ (s : State) (i n : ℕ) (fetched : i ≡ word (s .pc) s) (increased : n ≡ next (s .pc)) where
-  execution : execute i (s .pc) (withPc n s) ≡ step s
+  -- the step by the op of its instruction, each with its own part of the interrupt test
+  by-op : pick (eqb (op i) 6) (testedIf (not (eqb i ion)) (inputOutput i (withPc n s)))
+      (pick (eqb (op i) 7) (testedIf (not (clearsRun i)) (operate i (withPc n s))) (interruptTest (reference i (s .pc) (withPc n s))))
+      ≡ step s
   unfolding step
-  execution =
-      ap (λ (x : ℕ). execute i (s .pc) (withPc x s)) increased ∙ ap (λ (x : ℕ). execute x (s .pc) (withPc (next (s .pc)) s)) fetched
+  by-op =
+      sym (tested-by-op i (s .pc) (withPc n s))
+      ∙ ap (λ (x : ℕ). testedIf (makesTest i) (execute i (s .pc) (withPc x s))) increased
+      ∙ ap (λ (x : ℕ). testedIf (makesTest x) (execute x (s .pc) (withPc (next (s .pc)) s))) fetched
 
-  pub op-6 : op i ≡ 6 → inputOutput i (withPc n s) ≡ step s
-  unfolding execute
-  op-6 six = sym (case-true (eqb (op i) 6) _ _ (ap (λ (x : ℕ). eqb x 6) six)) ∙ execution
+  pub op-6 : op i ≡ 6 → testedIf (not (eqb i ion)) (inputOutput i (withPc n s)) ≡ step s
+  op-6 six = sym (case-true (eqb (op i) 6) _ _ (ap (λ (x : ℕ). eqb x 6) six)) ∙ by-op
 
   not-op-6 : eqb (op i) 6 ≡ false
-      → interruptTest (pick (eqb (op i) 7) (operate i (withPc n s)) (reference i (s .pc) (withPc n s))) ≡ step s
-  unfolding execute
-  not-op-6 six = sym (case-false (eqb (op i) 6) _ _ six) ∙ execution
+      → pick (eqb (op i) 7) (testedIf (not (clearsRun i)) (operate i (withPc n s))) (interruptTest (reference i (s .pc) (withPc n s))) ≡ step s
+  not-op-6 six = sym (case-false (eqb (op i) 6) _ _ six) ∙ by-op
 
-  pub op-7 : op i ≡ 7 → interruptTest (operate i (withPc n s)) ≡ step s
-  op-7 seven =
-      ap interruptTest (sym (case-true (eqb (op i) 7) _ _ (ap (λ (x : ℕ). eqb x 7) seven))) ∙ not-op-6 (ap (λ (x : ℕ). eqb x 6) seven)
+  pub op-7 : op i ≡ 7 → testedIf (not (clearsRun i)) (operate i (withPc n s)) ≡ step s
+  op-7 seven = sym (case-true (eqb (op i) 7) _ _ (ap (λ (x : ℕ). eqb x 7) seven)) ∙ not-op-6 (ap (λ (x : ℕ). eqb x 6) seven)
+
+  -- the first group leaves RUN
+  pub op-7-first : op i ≡ 7 → flag 3 i ≡ 0 → interruptTest (operate i (withPc n s)) ≡ step s
+  op-7-first seven three =
+      ap (λ (t : Bool). testedIf (not t) (operate i (withPc n s))) (sym (first-runs-on i three)) ∙ op-7 seven
 
   pub ops-0-to-5 : op i < 6 → interruptTest (reference i (s .pc) (withPc n s)) ≡ step s
   ops-0-to-5 low =
-      ap interruptTest (sym (case-false (eqb (op i) 7) _ _ (ne-eqb (op i) 7 (λ e. omega (arith, e, low)))))
+      sym (case-false (eqb (op i) 7) _ _ (ne-eqb (op i) 7 (λ e. omega (arith, e, low))))
       ∙ not-op-6 (ne-eqb (op i) 6 (λ e. omega (arith, e, low)))

@@ -1,3 +1,4 @@
 pub mod Step
+pub mod Base
 pub mod Run
 pub mod Marked

@@ -1,5 +1,5 @@
 -- "Steps worth marking", the marked ones as one table: the state before a step and the state after it, (L) at each of its four steps and
--- 6001 at its own step and the next. Machine words are octal.
+-- 6001 at its own step and the next; and those that document 02 adds. Machine words are octal.
 -- Assumes nothing.
 use mathlib.Core.List.{List, [], _∷_}
 use Prim.Native.Nat.{ℕ}
@@ -30,6 +30,10 @@ unfoldable pub requested : State
 requested =
     record { lac = 0; pc = 0o200; run = 1; enable = 0; request = 1; switches = 0; memory = set (set (replicate memoryWords 0) 0o200 0o6001) 0o201 0o7000 }
 
+-- INTERRUPT.ENABLE 1, too, with another instruction at 0200
+unfoldable pub pending : ℕ → State
+pending i = withEnable 1 (stored 0o200 i requested)
+
 unfoldable pub marked : List Mark
 marked =
     -- "(L)": 7300, 1204, 7001, 7402
@@ -57,4 +61,7 @@ marked =
     -- "6001 at 0200, request 1: no interrupt until 0201 is done"
     ∷ record { before = requested; after = withPc 0o201 (withEnable 1 requested) }
     ∷ record { before = withPc 0o201 (withEnable 1 requested); after = withPc 1 (stored 0 0o202 requested) }
+    -- document 02, One: 7402 with INTERRUPT.ENABLE and INTERRUPT.REQUEST both 1; 7403, which doesn't halt, is tested
+    ∷ record { before = pending 0o7402; after = withPc 0o201 (withRun 0 (pending 0o7402)) }
+    ∷ record { before = pending 0o7403; after = withPc 1 (withEnable 0 (stored 0 0o201 (pending 0o7403))) }
     ∷ []

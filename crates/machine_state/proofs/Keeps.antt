@@ -2,10 +2,9 @@
 -- op 6. The other ops are shown beside their definitions.
 -- Assumes nothing.
 use mathlib.Core.List.{List}
-use mathlib.Core.Bool.{_&&_}
+use mathlib.Core.Bool.{Bool}
 use Prim.Native.Nat.{ℕ, _^_, _<_}
 use lib.Dec.{eqb, lit<}
-use Rattle.word.specs.Choice.{on}
 use Rattle.word.specs.Word.{wordBits}
 use Rattle.word.proofs.Choice.{pick-either}
 use Rattle.state.specs.Acceptable.{Acceptable}
@@ -13,7 +12,7 @@ use Rattle.state.proofs.Accepted.{store-acceptable}
 use Rattle.machine_state.specs.declared.Processor.{Processor}
 use Rattle.machine_state.specs.State.{State, Good, stored, withLac, withPc, withRun, withEnable, withMemory, lacBits}
 use Rattle.machine_state.specs.Processor.{at, Narrow}
-use Rattle.machine_state.specs.Interrupt.{interruptTest, inputOutput, ion, iof}
+use Rattle.machine_state.specs.Interrupt.{takesInterrupt, interruptTest, testedIf, inputOutput, ion, iof}
 
 pub lac-good : {s : State} {x : ℕ} → x < 2 ^ lacBits → Good s → Good (withLac x s)
 lac-good h g =
@@ -41,12 +40,15 @@ stored-good a h g = memory-good (store-acceptable a h (g .memory)) g
 pub interrupt-good : {s : State} → Good s → Good (interruptTest s)
 unfolding interruptTest
 interrupt-good {s} g =
-    pick-either Good (on (s .enable) && on (s .request)) (enable-good (lit< tt) (pc-good (lit< tt) (stored-good 0 (g .pc) g))) g
+    pick-either Good (takesInterrupt s) (enable-good (lit< tt) (pc-good (lit< tt) (stored-good 0 (g .pc) g))) g
+
+pub tested-good : (made : Bool) {s : State} → Good s → Good (testedIf made s)
+tested-good made g = pick-either Good made (interrupt-good g) g
 
 pub inputOutput-good : (i : ℕ) {s : State} → Good s → Good (inputOutput i s)
 unfolding inputOutput
 inputOutput-good i g =
-    pick-either Good (eqb i ion) (enable-good (lit< tt) g) (interrupt-good (pick-either Good (eqb i iof) (enable-good (lit< tt) g) g))
+    pick-either Good (eqb i ion) (enable-good (lit< tt) g) (pick-either Good (eqb i iof) (enable-good (lit< tt) g) g)
 
 -- the registers of a good state
 pub good-narrow : {p : Processor} {memory : List ℕ} → Good (at p memory) → Narrow p

@@ -2,11 +2,13 @@
 use crate::Processor;
 use crate::memory::store;
 ghost use mathlib.Core.Path.{_≡_};
+ghost use mathlib.Core.Bool.{not};
 ghost use Prim.Native.Nat.{_^_, _<_};
+ghost use lib.Dec.{eqb};
 ghost use lib.ListN.{length};
 ghost use Rattle.word.specs.Word.{wordBits};
 ghost use Rattle.machine_state.specs.Processor.{at};
-ghost use Rattle.machine_state.specs.Interrupt.{interruptTest, inputOutput};
+ghost use Rattle.machine_state.specs.Interrupt.{interruptTest, testedIf, ion, inputOutput};
 
 const ION: u64 = 0o6001;
 
@@ -28,10 +30,10 @@ pub fn interrupt_test(memory: &mut [u16], p: Processor) -> Processor
     }
 }
 
-// Op 6, with its interrupt test or without.
+// Op 6, and the step's interrupt test, which 6001 omits.
 pub fn input_output(memory: &mut [u16], p: Processor, i: u64) -> Processor
     requires { ⌜ 0 < length (now memory) ⌝ ∗ ⌜ p .pc < 2 ^ wordBits ⌝ ∗ ⌜ p .enable < 2 ⌝ ∗ ⌜ p .request < 2 ⌝ }
-    ensures { λ r. ⌜ at r (now (memory .exit)) ≡ inputOutput i (at p (now (memory .entry))) ⌝ }
+    ensures { λ r. ⌜ at r (now (memory .exit)) ≡ testedIf (not (eqb i ion)) (inputOutput i (at p (now (memory .entry)))) ⌝ }
 {
     if i == ION {
         let mut q = p;

@@ -1,6 +1,6 @@
 -- One cycle of the shipped rows is one step of the machine, whatever the working registers hold.
 -- Assumes nothing.
-use mathlib.Core.Path.{_≡_, refl, ap, _∙_}
+use mathlib.Core.Path.{_≡_, refl, sym, ap, _∙_, subst}
 use Prim.Native.Nat.{ℕ, _%_, _^_}
 use native.Mathlib.Nat.{mod-eq-of-lt}
 use lib.Dec.{eqb}
@@ -10,9 +10,10 @@ use Rattle.word.proofs.Choice.{on-bit}
 use Rattle.word.proofs.Next.{next-lt}
 use Rattle.machine_state.specs.State.{State, Good, word, withPc}
 use Rattle.machine_state.specs.Instruction.{op}
-use Rattle.machine_state.specs.Interrupt.{interruptTest}
+use Rattle.machine_state.specs.Interrupt.{testedIf}
 use Rattle.machine_state.proofs.Keeps.{pc-good}
-use Rattle.machine_run.specs.Step.{execute, step}
+use Rattle.machine_run.specs.Step.{execute, makesTest, step}
+use Rattle.machine_run.proofs.Tested.{tested-by-op}
 use Rattle.rows_cycles.specs.Cycle.{cycle}
 use Rattle.text_declaration.specs.Rows.{Description}
 use Rattle.shipped_rows.specs.Shipped.{shipped}
@@ -26,11 +27,11 @@ use Rattle.shipped_rows.proofs.Addresses.{ends-address}
 use Rattle.shipped_rows.proofs.Operates.{ends-opr}
 
 module _ {o : State} {w : Work} (g : Good o) (f : Fit w) where
-  ends-decode : Ends rows·decode (inPlaces o w) (execute (w .i) (w .last) o)
-  unfolding execute
+  ends-decode : Ends rows·decode (inPlaces o w) (testedIf (makesTest (w .i)) (execute (w .i) (w .last) o))
   ends-decode =
-      branches (λ (x : State). x) (eqb (op (w .i)) 6) (on-bit (eqb (op (w .i)) 6)) (ends-iot g f)
-      (branches interruptTest (eqb (op (w .i)) 7) (on-bit (eqb (op (w .i)) 7)) (ends-opr g f) (ends-address g f))
+      subst (Ends rows·decode (inPlaces o w)) (sym (tested-by-op (w .i) (w .last) o))
+      (branches (λ (x : State). x) (eqb (op (w .i)) 6) (on-bit (eqb (op (w .i)) 6)) (ends-iot g f)
+      (branches (λ (x : State). x) (eqb (op (w .i)) 7) (on-bit (eqb (op (w .i)) 7)) (ends-opr g f) (ends-address g f)))
 
 module _ {o : State} {w : Work} (g : Good o) (f : Fit w) where
   ends-fetch : Ends rows·fetch (inPlaces o w) (step o)

@@ -9,7 +9,7 @@ use Rattle.word.specs.Choice.{on, pick, bit}
 use Rattle.word.specs.Word.{wordBits, complement}
 use Rattle.word.proofs.Choice.{on-bit}
 use Rattle.machine_state.specs.State.{State, Good, stored, withPc, withEnable}
-use Rattle.machine_state.specs.Interrupt.{interrupted, interruptTest, inputOutput, ion, iof}
+use Rattle.machine_state.specs.Interrupt.{interrupted, interruptTest, testedIf, ion, iof, inputOutput}
 use Rattle.shipped_rows.proofs.Tree.{rows·interrupt, rows·iot}
 use Rattle.shipped_rows.proofs.Places.{Work, Fit, inPlaces}
 use Rattle.shipped_rows.proofs.Ends.{Ends, past, acts, idles, jumps, stays}
@@ -39,7 +39,7 @@ seen-as {t} {u} e = on-bit t ∙ e
 -- op 6 by the two words that it knows
 module _ {o : State} {w : Work} (g : Good o) (f : Fit w) where
   switches : (first second : Bool) → eqb (w .i) ion ≡ first → eqb (w .i) iof ≡ second
-      → Ends rows·iot (inPlaces o w) (pick first (withEnable 1 o) (interruptTest (pick second (withEnable 0 o) o)))
+      → Ends rows·iot (inPlaces o w) (testedIf (not first) (pick first (withEnable 1 o) (pick second (withEnable 0 o) o)))
   switches true second p q =
       acts (inPlaces (withEnable 1 o) w) (seen-as p) refl (jumps (seen-as p) (past f))
   switches false true p q =
@@ -53,6 +53,6 @@ module _ {o : State} {w : Work} (g : Good o) (f : Fit w) where
       (idles (seen-as q)
       (jumps refl (ends-interrupt f (g .pc) (g .enable) (g .request)))))
 
-  pub ends-iot : Ends rows·iot (inPlaces o w) (inputOutput (w .i) o)
+  pub ends-iot : Ends rows·iot (inPlaces o w) (testedIf (not (eqb (w .i) ion)) (inputOutput (w .i) o))
   unfolding inputOutput
   ends-iot = switches (eqb (w .i) ion) (eqb (w .i) iof) refl refl

@@ -1,7 +1,7 @@
 -- The rows of op 7: its first and third group, and which group it is.
 -- Assumes nothing.
 use mathlib.Core.Path.{_≡_, refl, sym, ap, subst}
-use mathlib.Core.Bool.{Bool}
+use mathlib.Core.Bool.{Bool, true, not, _&&_}
 use mathlib.Core.List.{List, _∷_}
 use Prim.Native.Nat.{ℕ, _+_, _%_, _^_, _<_}
 use native.Mathlib.Nat.{mod-eq-of-lt}
@@ -13,18 +13,18 @@ use Rattle.word.proofs.Choice.{pick-either}
 use Rattle.word.proofs.Rotation.{rotatedLeft-lt, rotatedRight-lt}
 use Rattle.machine_state.specs.State.{State, Good, lacBits, withLac, link, ac, withLink, withAc}
 use Rattle.machine_state.specs.Instruction.{flag}
-use Rattle.machine_state.specs.Interrupt.{interruptTest}
+use Rattle.machine_state.specs.Interrupt.{interruptTest, testedIf}
 use Rattle.text_operators.specs.declared.Operator.the-variants.{RotateLeft, RotateRight}
 use Rattle.text_code.specs.Tree.{rotated}
 use Rattle.text_declaration.specs.Rows.{Row, does, goes}
 use Rattle.rows_value.specs.Value as rows
 use Rattle.machine_operate.specs.Operate as machine
-use Rattle.machine_operate.specs.Operate.{cleared, linkCleared, complemented, linkComplemented, increased, changed, group1, group3, operate}
+use Rattle.machine_operate.specs.Operate.{cleared, linkCleared, complemented, linkComplemented, increased, changed, group1, group2, group3, clearsRun, operate}
 use Rattle.machine_operate.proofs.Changes.{changed-lt}
 use Rattle.shipped_rows.proofs.Tree as tree
 use Rattle.shipped_rows.proofs.Tree.{rows·opr, rows·twice, rows·group2, rows·group3, rows·interrupt}
 use Rattle.shipped_rows.proofs.Places.{Work, Fit, inPlaces}
-use Rattle.shipped_rows.proofs.Ends.{Ends, moved, jumps, decides, branches}
+use Rattle.shipped_rows.proofs.Ends.{Ends, moved, jumps, decides}
 use Rattle.shipped_rows.proofs.Interrupts.{ends-interrupt}
 use Rattle.shipped_rows.proofs.Skips.{ends-group2}
 
@@ -92,10 +92,17 @@ module _ {o : State} {w : Work} (g : Good o) (f : Fit w) where
       (moved lac-is lac₃ (withLink lac₃ (complement 1 (link lac₃))) (on (flag 7 i)) refl refl
       (moved lac-is lac₄ ((lac₄ + 1) % 2 ^ lacBits) (on (flag 11 i)) refl refl
       (decides (λ (t : Bool). interruptTest (withLac (rotatedBy (pick t 2 1) lac₅) o)) (on (flag 10 i)) refl
-      (rotates 2 17 rows·group2 lac₅ (changed-lt i (g .lac)) refl)
-      (rotates 1 20 rows·twice lac₅ (changed-lt i (g .lac)) refl))))))
+      (rotates 2 18 rows·group2 lac₅ (changed-lt i (g .lac)) refl)
+      (rotates 1 21 rows·twice lac₅ (changed-lt i (g .lac)) refl))))))
 
-  pub ends-opr : Ends rows·opr (inPlaces o w) (interruptTest (operate i o))
-  unfolding operate
+  -- the groups by bits 3 and 11, which tell what bit 10 means, too
+  abbrev tested : Bool → Bool → State
+  tested three eleven =
+      testedIf (not (three && not eleven && on (flag 10 i))) (pick three (pick eleven (group3 i o) (group2 i o)) (group1 i o))
+
+  pub ends-opr : Ends rows·opr (inPlaces o w) (testedIf (not (clearsRun i)) (operate i o))
+  unfolding operate clearsRun
   ends-opr =
-      branches interruptTest (on (flag 3 i)) refl (branches interruptTest (on (flag 11 i)) refl ends-group3 (ends-group2 g f)) ends-group1
+      decides (λ (t : Bool). tested t (on (flag 11 i))) (on (flag 3 i)) refl
+      (decides (tested true) (on (flag 11 i)) refl ends-group3 (ends-group2 g f))
+      ends-group1

@@ -13,7 +13,7 @@ use Rattle.word.proofs.Choice.{pick-either, on-bit, bit-lt}
 use Rattle.word.proofs.Next.{next-lt}
 use Rattle.machine_state.specs.State.{State, Good, withLac, withPc, withRun, link, ac, withAc}
 use Rattle.machine_state.specs.Instruction.{flag}
-use Rattle.machine_state.specs.Interrupt.{interruptTest}
+use Rattle.machine_state.specs.Interrupt.{testedIf}
 use Rattle.text_code.specs.Tree.{Expr}
 use Rattle.text_declaration.specs.Rows.{Row, does}
 use Rattle.rows_value.specs.Value as rows
@@ -21,7 +21,7 @@ use Rattle.rows_value.specs.Value.{value}
 use Rattle.machine_operate.specs.Operate.{cleared, sign, skipsPlain, skipsReversed, skips, switched, group2}
 use Rattle.shipped_rows.proofs.Tree.{toSkip, one, rows·group2, rows·inverted, rows·decided}
 use Rattle.shipped_rows.proofs.Places.{Work, Fit, inPlaces, skipping, skipping-fit}
-use Rattle.shipped_rows.proofs.Ends.{Ends, seen, acts, moved, jumps, decides}
+use Rattle.shipped_rows.proofs.Ends.{Ends, past, seen, acts, moved, jumps, decides}
 use Rattle.shipped_rows.proofs.Bits.{of-test, of-bit, of-zero, negated, both, test, set-where}
 use Rattle.shipped_rows.proofs.Interrupts.{ends-interrupt}
 
@@ -48,14 +48,19 @@ module _ {o : State} {w : Work} (g : Good o) (f : Fit w) where
   abbrev run-is : Bool → ℕ → rows.State
   run-is b x = inPlaces (withRun x (decided b)) (skipping (bit b) w)
 
-  ends-decided : (b : Bool) → Ends rows·decided (skip-is b) (interruptTest (decided b))
+  -- and the interrupt test, unless it halts
+  abbrev tested : Bool → State
+  tested b = testedIf (not (on (flag 10 i))) (decided b)
+
+  ends-decided : (b : Bool) → Ends rows·decided (skip-is b) (tested b)
   ends-decided b =
       moved (λ (x : ℕ). inPlaces (withPc x o) (skipping (bit b) w)) (o .pc) (next (o .pc)) b (on-bit b) refl
       (moved (lac-is b) lac (withAc lac 0) (on (flag 4 i)) refl refl
       (moved (lac-is b) (cleared i lac) (withAc (cleared i lac) (bitOr (ac (cleared i lac)) (o .switches))) (on (flag 9 i)) refl refl
       (moved (run-is b) (o .run) 0 (on (flag 10 i)) refl refl
+      (decides (λ (t : Bool). testedIf (not t) (decided b)) (on (flag 10 i)) refl (past (skipping-fit (bit-lt b) f))
       (jumps refl
-      (ends-interrupt (skipping-fit (bit-lt b) f) (pick-either (λ (x : ℕ). x < 2 ^ wordBits) b (next-lt (o .pc)) (g .pc)) (g .enable) (g .request))))))
+      (ends-interrupt (skipping-fit (bit-lt b) f) (pick-either (λ (x : ℕ). x < 2 ^ wordBits) b (next-lt (o .pc)) (g .pc)) (g .enable) (g .request)))))))
 
   -- a row that sets skip where its condition holds
   selects : {c : Expr} {rs : List Row} {p : State} (b t : Bool) → on (value (skip-is b) c) ≡ t → Ends rs (skip-is (b || t)) p
@@ -85,14 +90,14 @@ module _ {o : State} {w : Work} (g : Good o) (f : Fit w) where
   abbrev szl : Bool
   szl = on (flag 7 i) && not (on (link lac))
 
-  ends-plain : Ends (drop 3 rows·group2) (skip-is false) (interruptTest (decided (skipsPlain i lac)))
+  ends-plain : Ends (drop 3 rows·group2) (skip-is false) (tested (skipsPlain i lac))
   ends-plain =
       selects false sma (both (of-bit (flag 5 i) (omega arith)) (of-bit (sign lac) (omega arith)))
       (selects sma sza (both (of-bit (flag 6 i) (omega arith)) (of-zero (ac lac)))
       (selects (sma || sza) snl (both (of-bit (flag 7 i) (omega arith)) (of-bit (link lac) (omega arith)))
       (jumps refl (ends-decided (skipsPlain i lac)))))
 
-  ends-inverted : Ends rows·inverted (skip-is false) (interruptTest (decided (skipsReversed i lac)))
+  ends-inverted : Ends rows·inverted (skip-is false) (tested (skipsReversed i lac))
   ends-inverted =
       selects false none (test (of-zero (bits wordBits 5 7 i)))
       (selects none spa (both (of-bit (flag 5 i) (omega arith)) (negated (of-bit (sign lac) (omega arith))))
@@ -101,8 +106,8 @@ module _ {o : State} {w : Work} (g : Good o) (f : Fit w) where
       (ends-decided (skipsReversed i lac)))))
 
   -- from the row below its first, which leaves the third group apart
-  pub ends-group2 : Ends (drop 1 rows·group2) (inPlaces o w) (interruptTest (group2 i o))
+  pub ends-group2 : Ends (drop 1 rows·group2) (inPlaces o w) (testedIf (not (on (flag 10 i))) (group2 i o))
   unfolding group2 skips
   ends-group2 =
       acts (skip-is false) refl refl
-      (decides (λ (t : Bool). interruptTest (decided (pick t (skipsReversed i lac) (skipsPlain i lac)))) (on (flag 8 i)) refl ends-inverted ends-plain)
+      (decides (λ (t : Bool). tested (pick t (skipsReversed i lac) (skipsPlain i lac))) (on (flag 8 i)) refl ends-inverted ends-plain)

@@ -136,6 +136,7 @@ rows·decided =
     ∷ does (iBit 4) toAc nought
     ∷ does (iBit 9) toAc (binary Or ac switches)
     ∷ does (iBit 10) toRun nought
+    ∷ goes (iBit 10) 7
     ∷ goes one 1
     ∷ rows·group3
 
@@ -149,7 +150,7 @@ rows·inverted =
 
 abbrev pub rows·group2 : List Row
 rows·group2 =
-    goes (iBit 11) 15
+    goes (iBit 11) 16
     ∷ does one toSkip nought
     ∷ goes (iBit 8) 4
     ∷ does (binary And (iBit 5) sign) toSkip one
@@ -162,7 +163,7 @@ abbrev pub rows·twice : List Row
 rows·twice =
     does (iBit 9) toLac (rotated RotateLeft lac 2)
     ∷ does (iBit 8) toLac (rotated RotateRight lac 2)
-    ∷ goes one 17
+    ∷ goes one 18
     ∷ rows·group2
 
 abbrev pub rows·opr : List Row
@@ -176,54 +177,54 @@ rows·opr =
     ∷ goes (iBit 10) 3
     ∷ does (iBit 9) toLac (rotated RotateLeft lac 1)
     ∷ does (iBit 8) toLac (rotated RotateRight lac 1)
-    ∷ goes one 20
+    ∷ goes one 21
     ∷ rows·twice
 
 abbrev pub rows·iot : List Row
 rows·iot =
     does (binary Equal i (constant 12 0o6001)) toEnable one
-    ∷ goes (binary Equal i (constant 12 0o6001)) 37
+    ∷ goes (binary Equal i (constant 12 0o6001)) 38
     ∷ does (binary Equal i (constant 12 0o6002)) toEnable nought
-    ∷ goes one 30
+    ∷ goes one 31
     ∷ rows·opr
 
 abbrev pub rows·jms : List Row
 rows·jms =
     does one (toMemory eadd) pc
     ∷ does one toPc (binary Add eadd one)
-    ∷ goes one 34
+    ∷ goes one 35
     ∷ rows·iot
 
 abbrev pub rows·dca : List Row
 rows·dca =
     does one (toMemory eadd) ac
     ∷ does one toAc nought
-    ∷ goes one 37
+    ∷ goes one 38
     ∷ rows·jms
 
 abbrev pub rows·isz : List Row
 rows·isz =
     does one (toMemory eadd) (binary Add (memory eadd) one)
     ∷ does (binary Equal (memory eadd) nought) toPc (binary Add pc one)
-    ∷ goes one 40
+    ∷ goes one 41
     ∷ rows·dca
 
 abbrev pub rows·tad : List Row
 rows·tad =
     does one toLac (binary Add lac (memory eadd))
-    ∷ goes one 43
+    ∷ goes one 44
     ∷ rows·isz
 
 abbrev pub rows·and : List Row
 rows·and =
     does one toAc (binary And ac (memory eadd))
-    ∷ goes one 45
+    ∷ goes one 46
     ∷ rows·tad
 
 abbrev pub rows·jmp : List Row
 rows·jmp =
     does one toPc eadd
-    ∷ goes one 47
+    ∷ goes one 48
     ∷ rows·and
 
 abbrev pub rows·execute : List Row

@@ -92,6 +92,7 @@ shippedText =
     ++ ascii "do\ti<4>\tLAC<1:12>\t0\n"
     ++ ascii "do\ti<9>\tLAC<1:12>\tLAC<1:12> Or SWITCHES\n"
     ++ ascii "do\ti<10>\tRUN\t0\n"
+    ++ ascii "go\ti<10>\trestart\n"
     ++ ascii "go\t1\tinterrupt\n"
     ++ ascii "at\tgroup.3\n"
     ++ ascii "do\ti<4>\tLAC<1:12>\t0\n"

@@ -2,7 +2,7 @@
 ghost use mathlib.Core.Path.{_≡_};
 ghost use Rattle.shipped_rows.specs.Text.{shippedText};
 
-pub const DESCRIPTION_BYTES: usize = 1790;
+pub const DESCRIPTION_BYTES: usize = 1807;
 
 // description/pdp8.rows, byte for byte.
 const DESCRIPTION: [u8; DESCRIPTION_BYTES] = *b"rows\t1\n\
@@ -91,6 +91,7 @@ do\tskip\tPC\tPC + 1\n\
 do\ti<4>\tLAC<1:12>\t0\n\
 do\ti<9>\tLAC<1:12>\tLAC<1:12> Or SWITCHES\n\
 do\ti<10>\tRUN\t0\n\
+go\ti<10>\trestart\n\
 go\t1\tinterrupt\n\
 at\tgroup.3\n\
 do\ti<4>\tLAC<1:12>\t0\n\

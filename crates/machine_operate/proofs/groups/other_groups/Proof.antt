@@ -3,7 +3,7 @@ use mathlib.Core.Path.{ap}
 use mathlib.Core.Bool.{not}
 use borrow.Author.Tests.{eq-eqb, ne-eqb}
 use Rattle.word.specs.Choice.{on}
-use Rattle.machine_operate.specs.Operate.{operate}
+use Rattle.machine_operate.specs.Operate.{clearsRun, operate}
 use borrow.Author.Needs.{needs}
 use Rattle.machine_operate.proofs.groups.other_groups.Statement.{statement}
 use Rattle.machine_operate.proofs.groups.other_groups.Tie as tie
@@ -18,17 +18,17 @@ same-length : tie.Need-same-length
 same-length c = search needs
 
 returns : tie.Need-returns
-unfolding operate
+unfolding operate clearsRun
 returns c = let three = c .before .before .before .before .before .before .pre .1 in
-    rw (ap on three, ap not (ne-eqb _ _ (c .before .before .before .before .if1 .taken)), operate) (c .before .before .third-group .ensures)
+    rw (ap on three, ap not (ne-eqb _ _ (c .before .before .before .before .if1 .taken)), operate, clearsRun) (c .before .before .third-group .ensures)
 
 same-length-2 : tie.Need-same-length-2
 same-length-2 c = search needs
 
 returns-2 : tie.Need-returns-2
-unfolding operate
+unfolding operate clearsRun
 returns-2 c = let three = c .before .before .before .before .before .before .pre .1 in
-    rw (ap on three, ap not (eq-eqb _ _ (c .before .before .before .before .if1 .left)), operate) (c .before .before .second-group .ensures)
+    rw (ap on three, ap not (eq-eqb _ _ (c .before .before .before .before .if1 .left)), operate, clearsRun) (c .before .before .second-group .ensures)
 
 pub other-groups-spec : {M : Type 1} → statement M
 other-groups-spec =

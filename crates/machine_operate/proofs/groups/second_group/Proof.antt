@@ -1,12 +1,11 @@
--- `machine_operate::groups::second_group`: the skip and the clear, then the switches and the halt where they are asked for, then the interrupt test.
+-- `machine_operate::groups::second_group`: the skip and the clear, then the switches and the halt where they are asked for, then the interrupt test unless it halted.
 use mathlib.Core.Path.{ap, _∙_}
 use denote.Ref.{now}
-use Rattle.machine_state.specs.Interrupt.{interruptTest}
 use Rattle.machine_state.specs.Processor.{at}
 use Rattle.machine_operate.specs.Operate.{switched}
 use native.Mathlib.Omega.{arith}
 use Rattle.machine_operate.proofs.Changes.{cleared-lt}
-use Rattle.machine_operate.proofs.Skipped.{skip-lt, skipped, skipped-only}
+use Rattle.machine_operate.proofs.Skipped.{skip-lt, skipped-only, skipped-on, skipped-halted}
 use borrow.Author.Needs.{needs}
 use Rattle.machine_operate.proofs.groups.second_group.Statement.{statement}
 use Rattle.machine_operate.proofs.groups.second_group.Tie as tie
@@ -32,7 +31,7 @@ returns c =
     let test = clear .before in
     let begin = test .before .before .before .args in
     c .before .before .interrupt-test .ensures
-    ∙ ap interruptTest (skipped-only (begin .i) (at (begin .p) (now (begin .memory))) _ _ (test .before .skip .ensures) (test .if1 .taken) (clear .clear .ensures))
+    ∙ skipped-only (begin .i) (at (begin .p) (now (begin .memory))) _ _ (test .before .skip .ensures) (test .if1 .taken) (clear .clear .ensures)
 
 clear-requires-2 : tie.Need-clear-requires-2
 clear-requires-2 c κs = search needs
@@ -42,8 +41,14 @@ or-switches-requires c κs =
     let start = c .before .before .before .before in
     (rw (c .clear2 .ensures) (cleared-lt (start .args .i) (start .pre .lac)), start .pre .switches)
 
-halt-requires : tie.Need-halt-requires
-halt-requires c κs = search needs
+returns-2 : tie.Need-returns-2
+returns-2 c =
+    let switch = c .before in
+    let test = switch .before .before in
+    let begin = test .before .before .before .args in
+    skipped-halted (begin .i) (at (begin .p) (now (begin .memory))) _ _ (test .before .skip .ensures)
+    (switch .or-switches .ensures ∙ ap (switched (begin .i) (begin .p .switches)) (switch .before .clear2 .ensures))
+    (c .if2 .taken)
 
 interrupt-test-requires-2 : tie.Need-interrupt-test-requires-2
 interrupt-test-requires-2 c κs =
@@ -54,17 +59,16 @@ interrupt-test-requires-2 c κs =
 same-length-2 : tie.Need-same-length-2
 same-length-2 c = search needs
 
-returns-2 : tie.Need-returns-2
-returns-2 c =
+returns-3 : tie.Need-returns-3
+returns-3 c =
     let halt = c .before .before .before .before in
     let switch = halt .before in
     let test = switch .before .before in
     let begin = test .before .before .before .args in
     c .before .before .interrupt-test2 .ensures
-    ∙ ap interruptTest
-    (skipped (begin .i) (at (begin .p) (now (begin .memory))) _ _ (test .before .skip .ensures) _
+    ∙ skipped-on (begin .i) (at (begin .p) (now (begin .memory))) _ _ (test .before .skip .ensures)
     (switch .or-switches .ensures ∙ ap (switched (begin .i) (begin .p .switches)) (switch .before .clear2 .ensures))
-    (halt .halt .ensures))
+    (halt .if2 .left)
 
 pub second-group-spec : {M : Type 1} → statement M
 second-group-spec =
@@ -77,7 +81,7 @@ second-group-spec =
     returns
     clear-requires-2
     or-switches-requires
-    halt-requires
+    returns-2
     interrupt-test-requires-2
     same-length-2
-    returns-2)
+    returns-3)

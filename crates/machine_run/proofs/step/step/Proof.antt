@@ -3,7 +3,7 @@ use mathlib.Core.Path.{_∙_}
 use denote.Ref.{now}
 use borrow.Author.Needs.{needs}
 use Rattle.machine_state.specs.Processor.{at}
-use Rattle.machine_run.proofs.Steps.{op-of, bit-3-of, op-left, counted-good, op-6, op-7, ops-0-to-5}
+use Rattle.machine_run.proofs.Steps.{op-of, bit-3-of, op-left, counted-good, op-6, op-7, op-7-first, ops-0-to-5}
 use Rattle.machine_run.proofs.step.step.Statement.{statement}
 use Rattle.machine_run.proofs.step.step.Tie as tie
 
@@ -71,7 +71,8 @@ returns-3 c =
     let fetch = test .before .before in
     let begin = fetch .before .before .before .args in
     c .before .before .first-group .ensures
-    ∙ op-7 (at (begin .p) (now (begin .memory))) _ _ (fetch .load .ensures) (test .before .increment .ensures) (op-of _ 14 (test .match .keys3))
+    ∙ op-7-first (at (begin .p) (now (begin .memory))) _ _ (fetch .load .ensures) (test .before .increment .ensures) (op-of _ 14 (test .match .keys3))
+    (bit-3-of _ 14 (test .match .keys3))
 
 same-length-4 : tie.Need-same-length-4
 same-length-4 c = search needs

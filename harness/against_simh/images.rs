@@ -1,4 +1,4 @@
-//! Images for both machines: binary tapes read and written, and random images dense with code.
+//! Images for both machines: binary tapes read and written, random images dense with code, and words of op 7 with an interrupt pending.
 
 use crate::random::Random;
 
@@ -9,6 +9,9 @@ pub struct Image {
     pub lac: u16,
     pub pc: u16,
     pub switches: u16,
+    pub interrupt_enable: u16,
+    /// Stays as it is: SIMH's request of a device that no compared word speaks to.
+    pub interrupt_request: u16,
     /// Steps to compare after.
     pub budgets: Vec<u64>,
     /// Words that the program is to leave: address and word.
@@ -60,15 +63,20 @@ pub fn expectations(source: &str) -> Vec<(u16, u16)> {
         .collect()
 }
 
-/// Code of ops 0 to 5 and 7 that both machines are meant to run alike; `comparable` is asked again at each step.
+/// 6001, which sets INTERRUPT.ENABLE, and 6002, which clears it.
+const ION: u16 = 0o6001;
+pub const IOF: u16 = 0o6002;
+
+/// Code that both machines are meant to run alike; `comparable` is asked again at each step.
 fn instruction(random: &mut Random) -> u16 {
     loop {
-        let word = match random.below(8) {
-            0..=4 => {
+        let word = match random.below(16) {
+            0..=9 => {
                 let word = (random.below(6) as u16) << 9 | random.bits(8);
                 if random.once_in(3) { word & 0o7000 | 0o400 | random.between(0o7, 0o20) as u16 } else { word }
             }
-            5 | 6 => 0o7000 | random.bits(8),
+            10..=12 => 0o7000 | random.bits(8),
+            13 => *random.pick(&[ION, ION, IOF]),
             _ => 0o7400 | random.bits(8) & 0o374 | if random.once_in(12) { 2 } else { 0 },
         };
         if comparable(word) {
@@ -86,7 +94,28 @@ pub fn random_image(random: &mut Random, name: String) -> Image {
     let pc = if random.once_in(3) { *random.pick(&[0, 0o177, 0o377, 0o7776, 0o7777]) } else { random.bits(12) };
     let most = *random.pick(&[1, 2, 5, 20, 100, 1000, 10_000]);
     let budgets = vec![random.between(1, most) as u64];
-    Image { name, memory, lac: random.bits(13), pc, switches: random.bits(12), budgets, expected: Vec::new() }
+    let (lac, switches) = (random.bits(13), random.bits(12));
+    let (interrupt_enable, interrupt_request) = (random.bits(1), u16::from(random.once_in(3)));
+    Image { name, memory, lac, pc, switches, interrupt_enable, interrupt_request, budgets, expected: Vec::new() }
+}
+
+/// One word of the second group of op 7, with INTERRUPT.ENABLE and INTERRUPT.REQUEST both 1, or after the 6001 that enables.
+pub fn pending_image(random: &mut Random, word: u16, enabled_before: bool) -> Image {
+    let mut memory: Vec<u16> = (0..4096).map(|_| instruction(random)).collect();
+    let pc = random.between(2, 0o7776) as u16;
+    let first = if enabled_before { word } else { ION };
+    memory[pc as usize] = first;
+    memory[pc as usize + 1] = word;
+    memory[1] = 0o7000;
+    let name = format!("pending{:o}{}", word, u16::from(enabled_before));
+    let (lac, switches) = (random.bits(13), random.bits(12));
+    let budgets = vec![if enabled_before { 1 } else { 2 }];
+    Image { name, memory, lac, pc, switches, interrupt_enable: u16::from(enabled_before), interrupt_request: 1, budgets, expected: Vec::new() }
+}
+
+/// The words of the second group of op 7 that both machines are meant to run alike, halts and others.
+pub fn second_group() -> impl Iterator<Item = u16> {
+    (0o7400..=0o7776).step_by(2).filter(|word| comparable(*word))
 }
 
 /// Whether document 01 and SIMH's machine are meant to do the same at this word: see harness/SIMH.md.
@@ -98,5 +127,5 @@ pub fn comparable(word: u16) -> bool {
     let rotates_both = group_1 && word & 0o14 == 0o14;
     let group_2 = word & 0o7401 == 0o7400;
     let opposites = group_2 && word & 0o10 != 0 && (word & 0o160).count_ones() > 1;
-    !iot && !swaps_bytes && !rotates_both && !opposites && (!group_3 || word & 0o376 == 0 || word & 0o376 == 0o200)
+    (!iot || word == ION || word == IOF) && !swaps_bytes && !rotates_both && !opposites && (!group_3 || word & 0o376 == 0 || word & 0o376 == 0o200)
 }

@@ -9,7 +9,7 @@ use word::WORD_VALUES;
 ghost use mathlib.Core.Path.{_≡_};
 ghost use mathlib.Core.Bool.{not};
 ghost use Prim.Native.Nat.{_^_, _<_};
-ghost use Rattle.word.specs.Choice.{on};
+ghost use Rattle.word.specs.Choice.{on, pick};
 ghost use Rattle.word.specs.Word.{wordBits};
 ghost use Rattle.machine_state.specs.Instruction.{flag};
 ghost use Rattle.machine_state.specs.State.{lacBits, Good};
@@ -35,6 +35,13 @@ fn or_switches(i: u64, switches: u64, lac: u64) -> u64
     }
 }
 
+// Bit 10 sets RUN to 0.
+fn halt(i: u64, run: u64) -> u64
+    ensures { λ r. ⌜ r ≡ pick (on (flag 10 i)) 0 run ⌝ }
+{
+    if i / HLT % 2 != 0 { 0 } else { run }
+}
+
 // Op 7, bit 3 = 0.
 pub fn first_group(memory: &mut [u16], p: Processor, i: u64) -> Processor
     requires { ⌜ Good (at p (now memory)) ⌝ ∗ ⌜ flag 3 i ≡ 0 ⌝ }
@@ -45,7 +52,7 @@ pub fn first_group(memory: &mut [u16], p: Processor, i: u64) -> Processor
     interrupt_test(memory, q)
 }
 
-// Op 7, bit 3 = 1, bit 11 = 0. Few instructions ask for SWITCHES or a halt. Bit 10 sets RUN to 0.
+// Op 7, bit 3 = 1, bit 11 = 0. Few instructions ask for SWITCHES or a halt.
 fn second_group(memory: &mut [u16], p: Processor, i: u64) -> Processor
     requires { ⌜ Good (at p (now memory)) ⌝ }
     ensures { λ r. ⌜ at r (now (memory .exit)) ≡ testedIf (not (on (flag 10 i))) (group2 i (at p (now (memory .entry)))) ⌝ }
@@ -57,8 +64,8 @@ fn second_group(memory: &mut [u16], p: Processor, i: u64) -> Processor
         return interrupt_test(memory, q);
     }
     q.lac = or_switches(i, p.switches, clear(i, p.lac));
+    q.run = halt(i, p.run);
     if i / HLT % 2 != 0 {
-        q.run = 0;
         return q;
     }
     interrupt_test(memory, q)

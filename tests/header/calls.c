@@ -75,7 +75,7 @@ static void try_evaluate(void)
     registers.values[2] = 1;
     memory[0] = 07402;
     guavachisel_evaluate(shipped, bytes, memory, GUAVACHISEL_WORDS, &registers, 9, rows, GUAVACHISEL_ROWS, &outcome);
-    expect("evaluate", 0, 0, 1, GUAVACHISEL_HALTED, 10, 0);
+    expect("evaluate", 0, 0, 1, GUAVACHISEL_HALTED, 9, 0);
 }
 
 /* Whether the room begins with so many bytes of the description, and has only marks after them; then marks it all. */

@@ -15,7 +15,7 @@ use Rattle.machine_operate.specs.Operate.{clearsRun, operate}
 use Rattle.machine_operate.proofs.Halts.{operate-takes}
 use Rattle.machine_reference.specs.Reference.{reference}
 use Rattle.machine_run.specs.Base.{baseStep}
-use Rattle.machine_run.specs.Step.{execute, halts, makesTest, step}
+use Rattle.machine_run.specs.Step.{halts, step}
 use Rattle.machine_run.proofs.Tested.{six-not-7, tested-by-op}
 
 -- an interrupt after the halt, where both were 1
@@ -23,16 +23,16 @@ abbrev after : Bool → State → State
 after both s = pick both (interrupted s) s
 
 -- the tests by which an instruction is executed and tested in both, and what each op leaves
-beside : (six on seven clears both : Bool) (x y b c : State) → (six ≡ true → seven ≡ false) → takesInterrupt b ≡ both
-    → pick six (pick on x (interruptTest y)) (interruptTest (pick seven b c))
-    ≡ after ((seven && clears) && both) (pick six (testedIf (not on) (pick on x y)) (pick seven (testedIf (not clears) b) (interruptTest c)))
+beside : (six enables seven clears both : Bool) (x y b c : State) → (six ≡ true → seven ≡ false) → takesInterrupt b ≡ both
+    → pick six (pick enables x (interruptTest y)) (interruptTest (pick seven b c))
+    ≡ after ((seven && clears) && both) (pick six (testedIf (not enables) (pick enables x y)) (pick seven (testedIf (not clears) b) (interruptTest c)))
 unfolding interruptTest
-beside true on true clears both x y b c q e = absurd (false≢true (sym (q refl)))
+beside true enables true clears both x y b c q e = absurd (false≢true (sym (q refl)))
 beside true true false clears both x y b c q e = refl
 beside true false false clears both x y b c q e = refl
-beside false on true true both x y b c q e = ap (λ (t : Bool). after t b) e
-beside false on true false both x y b c q e = refl
-beside false on false clears both x y b c q e = refl
+beside false enables true true both x y b c q e = ap (λ (t : Bool). after t b) e
+beside false enables true false both x y b c q e = refl
+beside false enables false clears both x y b c q e = refl
 
 pub base-step : (s : State) → baseStep s ≡ after (halts (word (s .pc) s) && takesInterrupt s) (step s)
 unfolding baseStep step halts inputOutput

@@ -23,17 +23,17 @@ inputOutput-run i s =
     pick-either (λ (x : State). x .run ≡ s .run) (eqb i ion) refl (pick-either (λ (x : State). x .run ≡ s .run) (eqb i iof) refl refl)
 
 -- the op, and RUN as each leaves it
-by-op : (six seven clears : Bool) (n : ℕ) (a b c : State) → (six ≡ true → seven ≡ false) → a .run ≡ n → b .run ≡ pick clears 0 n → c .run ≡ n
+run-by-op : (six seven clears : Bool) (n : ℕ) (a b c : State) → (six ≡ true → seven ≡ false) → a .run ≡ n → b .run ≡ pick clears 0 n → c .run ≡ n
     → pick six a (pick seven b c) .run ≡ pick (seven && clears) 0 n
-by-op true true clears n a b c q input operates refers = absurd (false≢true (sym (q refl)))
-by-op true false clears n a b c q input operates refers = input
-by-op false true clears n a b c q input operates refers = operates
-by-op false false clears n a b c q input operates refers = refers
+run-by-op true true clears n a b c q input operates refers = absurd (false≢true (sym (q refl)))
+run-by-op true false clears n a b c q input operates refers = input
+run-by-op false true clears n a b c q input operates refers = operates
+run-by-op false false clears n a b c q input operates refers = refers
 
 execute-run : (i last : ℕ) (s : State) → execute i last s .run ≡ pick (halts i) 0 (s .run)
 unfolding execute halts
 execute-run i last s =
-    by-op (eqb (op i) 6) (eqb (op i) 7) (clearsRun i) (s .run) (inputOutput i s) (operate i s) (reference i last s) (six-not-7 i)
+    run-by-op (eqb (op i) 6) (eqb (op i) 7) (clearsRun i) (s .run) (inputOutput i s) (operate i s) (reference i last s) (six-not-7 i)
     (inputOutput-run i s) (operate-run i s) (reference-run i last s)
 
 -- an interrupt leaves it, too

@@ -39,21 +39,21 @@ counted-good s n increased g = rw increased (pc-good (next-lt (s .pc)) g)
 
 module _ (s : State) (i n : ℕ) (fetched : i ≡ word (s .pc) s) (increased : n ≡ next (s .pc)) where
   -- the step by the op of its instruction, each with its own part of the interrupt test
-  by-op : pick (eqb (op i) 6) (testedIf (not (eqb i ion)) (inputOutput i (withPc n s)))
+  step-by-op : pick (eqb (op i) 6) (testedIf (not (eqb i ion)) (inputOutput i (withPc n s)))
       (pick (eqb (op i) 7) (testedIf (not (clearsRun i)) (operate i (withPc n s))) (interruptTest (reference i (s .pc) (withPc n s))))
       ≡ step s
   unfolding step
-  by-op =
+  step-by-op =
       sym (tested-by-op i (s .pc) (withPc n s))
       ∙ ap (λ (x : ℕ). testedIf (makesTest i) (execute i (s .pc) (withPc x s))) increased
       ∙ ap (λ (x : ℕ). testedIf (makesTest x) (execute x (s .pc) (withPc (next (s .pc)) s))) fetched
 
   pub op-6 : op i ≡ 6 → testedIf (not (eqb i ion)) (inputOutput i (withPc n s)) ≡ step s
-  op-6 six = sym (case-true (eqb (op i) 6) _ _ (ap (λ (x : ℕ). eqb x 6) six)) ∙ by-op
+  op-6 six = sym (case-true (eqb (op i) 6) _ _ (ap (λ (x : ℕ). eqb x 6) six)) ∙ step-by-op
 
   not-op-6 : eqb (op i) 6 ≡ false
       → pick (eqb (op i) 7) (testedIf (not (clearsRun i)) (operate i (withPc n s))) (interruptTest (reference i (s .pc) (withPc n s))) ≡ step s
-  not-op-6 six = sym (case-false (eqb (op i) 6) _ _ six) ∙ by-op
+  not-op-6 six = sym (case-false (eqb (op i) 6) _ _ six) ∙ step-by-op
 
   pub op-7 : op i ≡ 7 → testedIf (not (clearsRun i)) (operate i (withPc n s)) ≡ step s
   op-7 seven = sym (case-true (eqb (op i) 7) _ _ (ap (λ (x : ℕ). eqb x 7) seven)) ∙ not-op-6 (ap (λ (x : ℕ). eqb x 6) seven)

@@ -21,15 +21,15 @@ pub six-not-7 : (i : ℕ) → eqb (op i) 6 ≡ true → eqb (op i) 7 ≡ false
 six-not-7 i e = ap (λ (x : ℕ). eqb x 7) (eqb-true (op i) 6 e)
 
 -- the tests by which an instruction is executed and tested, and what each op leaves
-tested : (six on seven clears : Bool) (a b c : State) → (on ≡ true → six ≡ true) → (six ≡ true → seven ≡ false)
-    → testedIf (not (on || (seven && clears))) (pick six a (pick seven b c))
-    ≡ pick six (testedIf (not on) a) (pick seven (testedIf (not clears) b) (interruptTest c))
-tested true on true clears a b c p q = absurd (false≢true (sym (q refl)))
-tested true true false clears a b c p q = refl
-tested true false false clears a b c p q = refl
-tested false true seven clears a b c p q = absurd (false≢true (p refl))
-tested false false true clears a b c p q = refl
-tested false false false clears a b c p q = refl
+ways : (six enables seven clears : Bool) (a b c : State) → (enables ≡ true → six ≡ true) → (six ≡ true → seven ≡ false)
+    → testedIf (not (enables || (seven && clears))) (pick six a (pick seven b c))
+    ≡ pick six (testedIf (not enables) a) (pick seven (testedIf (not clears) b) (interruptTest c))
+ways true enables true clears a b c p q = absurd (false≢true (sym (q refl)))
+ways true true false clears a b c p q = refl
+ways true false false clears a b c p q = refl
+ways false true seven clears a b c p q = absurd (false≢true (p refl))
+ways false false true clears a b c p q = refl
+ways false false false clears a b c p q = refl
 
 pub tested-by-op : (i last : ℕ) (s : State)
     → testedIf (makesTest i) (execute i last s)
@@ -37,4 +37,4 @@ pub tested-by-op : (i last : ℕ) (s : State)
     (pick (eqb (op i) 7) (testedIf (not (clearsRun i)) (operate i s)) (interruptTest (reference i last s)))
 unfolding execute halts makesTest
 tested-by-op i last s =
-    tested (eqb (op i) 6) (eqb i ion) (eqb (op i) 7) (clearsRun i) (inputOutput i s) (operate i s) (reference i last s) (ion-is-6 i) (six-not-7 i)
+    ways (eqb (op i) 6) (eqb i ion) (eqb (op i) 7) (clearsRun i) (inputOutput i s) (operate i s) (reference i last s) (ion-is-6 i) (six-not-7 i)

@@ -81,7 +81,7 @@ group2 i s =
     (withLac (switched i (s .switches) (cleared i (s .lac)))
     (withRun (pick (on (flag 10 i)) 0 (s .run)) s))
 
--- whether an instruction of op 7 does so
+-- whether an instruction of op 7 sets RUN to 0
 unfoldable pub clearsRun : ℕ → Bool
 clearsRun i = on (flag 3 i) && not (on (flag 11 i)) && on (flag 10 i)
 

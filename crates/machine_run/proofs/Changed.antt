@@ -1,5 +1,5 @@
--- Document 02, One: "Only halting steps with INTERRUPT.ENABLE and INTERRUPT.REQUEST both 1 change." The base's step took an interrupt after such a
--- step, and every other step is as it was.
+-- Document 02, One: "Only halting steps with INTERRUPT.ENABLE and INTERRUPT.REQUEST both 1 change." Without One such a step is followed by an interrupt,
+-- and every other step is the same.
 -- Assumes nothing.
 use mathlib.Core.Path.{_≡_, refl, sym, ap, _∙_}
 use mathlib.Core.Bool.{Bool, true, false, false≢true, not, _&&_}

@@ -1,4 +1,4 @@
--- The step as document 01 alone has it: the interrupt test "also follows a halt". Nothing rests on it; machine_run/Changed says where a step differs from it.
+-- The step without request One of document 02: the interrupt test "also follows a halt". Nothing rests on it; machine_run/Changed says where a step differs from it.
 -- Assumes nothing.
 use Prim.Native.Nat.{ℕ}
 use lib.Dec.{eqb}

@@ -90,4 +90,5 @@ pub step-few : (s : State) → length (changeLines 0 (s .memory) (step s .memory
 unfolding step
 step-few s =
     let i : ℕ = word (s .pc) s in
-    tested-few (s .memory) 40 (makesTest i) _ (execute-few (s .memory) 0 i (s .pc) (withPc (next (s .pc)) s) (omega (arith, unchanged 0 (s .memory))))
+    tested-few (s .memory) (wordLineBytes + wordLineBytes) (makesTest i) _
+    (execute-few (s .memory) 0 i (s .pc) (withPc (next (s .pc)) s) (omega (arith, unchanged 0 (s .memory))))

@@ -20,7 +20,8 @@ use Rattle.machine_run.proofs.Tested.{six-not-7}
 inputOutput-run : (i : ℕ) (s : State) → inputOutput i s .run ≡ s .run
 unfolding inputOutput
 inputOutput-run i s =
-    pick-either (λ (x : State). x .run ≡ s .run) (eqb i ion) refl (pick-either (λ (x : State). x .run ≡ s .run) (eqb i iof) refl refl)
+    let P : State → Type 0 = λ (x : State). x .run ≡ s .run in
+    pick-either P (eqb i ion) refl (pick-either P (eqb i iof) refl refl)
 
 -- the op, and RUN as each leaves it
 run-by-op : (six seven clears : Bool) (n : ℕ) (a b c : State) → (six ≡ true → seven ≡ false) → a .run ≡ n → b .run ≡ pick clears 0 n → c .run ≡ n

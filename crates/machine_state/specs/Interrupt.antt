@@ -14,6 +14,7 @@ takesInterrupt s = on (s .enable) && on (s .request)
 abbrev pub interrupted : State → State
 interrupted s = withEnable 0 (withPc 1 (stored 0 (s .pc) s))
 
+-- "Interrupt test": the one asked, the other done
 unfoldable pub interruptTest : State → State
 interruptTest s = pick (takesInterrupt s) (interrupted s) s
 

@@ -5,8 +5,8 @@ use Rattle.machine_reference.specs.Address.{firstAddress, indexed, effective, a
 use Rattle.machine_reference.specs.Reference.{operation, reference}
 use Rattle.machine_operate.specs.Operate.{changed, rotated, skips, group1, group2, clearsRun, operate}
 use Rattle.machine_state.specs.Interrupt.{interruptTest}
-use Rattle.machine_run.specs.Step.{execute, halts, makesTest, step}
-use Rattle.machine_run.specs.Run.{runFrom, run}
+use Rattle.runs.specs.Run.{runFrom}
+use Rattle.machine_run.specs.Step.{execute, halts, makesTest, stepWith}
 use Rattle.characters.specs.Ascii.{ascii}
 use Rattle.page.specs.Text.{octal, decimalIn, decimal}
 use Rattle.characters.specs.Characters as bytes
@@ -18,5 +18,5 @@ use Rattle.desk_day_listing.specs.Listing.{stepLine, stepLines, runListi
 
 pub day : dayListing (ascii "0200\t7300\n0201\t1204\n0202\t7001\n0203\t7402\n0204\t7777\n")
     ≡ ascii "step\tpc\ti\tlac\trun\n1\t0200\t7300\t00000\t1\n2\t0201\t1204\t07777\t1\n3\t0202\t7001\t10000\t1\n4\t0203\t7402\t10000\t0\nend\t4\thalted\n"
-unfolding firstAddress indexed effective afterIndexing operation reference changed rotated skips group1 group2 clearsRun operate interruptTest execute halts makesTest step runFrom run octal decimalIn decimal bytes.run numberAt lines field hasFields isWordLine stored afterLines clear firstUnfit stepLine stepLines endLine runListing dayListing
+unfolding firstAddress indexed effective afterIndexing operation reference changed rotated skips group1 group2 clearsRun operate interruptTest execute halts makesTest stepWith runFrom octal decimalIn decimal bytes.run numberAt lines field hasFields isWordLine stored afterLines clear firstUnfit stepLine stepLines endLine runListing dayListing
 day = refl

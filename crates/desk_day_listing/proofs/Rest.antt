@@ -9,11 +9,12 @@ use native.Mathlib.Nat.{not-suc-le-zero}
 use native.Mathlib.Numerals.{add-one, sub-one}
 use native.Mathlib.Omega.{arith}
 use borrow.Author.Tests.{eq-eqb}
-use Rattle.word.specs.Choice.{on, pick}
-use Rattle.state.specs.declared.Reason.the-variants.{Halted, Spent}
+use Rattle.word.specs.Choice.{on}
+use Rattle.state.specs.Refusals.{reasonOf}
+use Rattle.runs.specs.Run.{runFrom}
 use Rattle.machine_state.specs.State.{State, word, Good}
 use Rattle.machine_run.specs.Step.{step}
-use Rattle.machine_run.specs.Run.{runFrom, run}
+use Rattle.machine_run.specs.Run.{running}
 use Rattle.machine_run.proofs.Keeps.{step-good}
 use Rattle.desk_last_lines.specs.LastLines.{endLine}
 use Rattle.desk_day_listing.specs.Listing.{budget, ready, heading, stepLine, stepLines, runListing}
@@ -24,7 +25,9 @@ use Rattle.desk_day_listing.proofs.Sizes.{step-line-size}
 
 -- `left` steps of the budget are left, and `done` steps have been done
 abbrev pub rest : ℕ → ℕ → State → List ℕ
-rest left done s = stepLines left done s ++ endLine (runFrom left done s .steps) (runFrom left done s .reason)
+rest left done s =
+    let r = runFrom running step left done s in
+    stepLines left done s ++ endLine (r .steps) (reasonOf (r .left .run))
 
 -- a step is left, and RUN is 1: its line, and the lines after it
 rest-on : (left done : ℕ) (s t : State) → 0 < left → on (s .run) ≡ true → t ≡ step s
@@ -36,18 +39,18 @@ rest-on (suc left) done s t h e q =
     (append-assoc (stepLine (suc done) (s .pc) (word (s .pc) s) (step s .lac) (step s .run)) _ _)
 
 -- no step more, since RUN is 0 or the budget is done: the last line
-rest-halted : (left done : ℕ) (s : State) → on (s .run) ≡ false → rest left done s ≡ endLine done (pick (on (s .run)) Spent Halted)
+rest-halted : (left done : ℕ) (s : State) → on (s .run) ≡ false → rest left done s ≡ endLine done (reasonOf (s .run))
 unfolding stepLines runFrom
 rest-halted zero done s e = refl
 rest-halted (suc left) done s e = rw (e, stepLines, runFrom) (rw e)
 
-rest-spent : (done : ℕ) (s : State) → rest 0 done s ≡ endLine done (pick (on (s .run)) Spent Halted)
+rest-spent : (done : ℕ) (s : State) → rest 0 done s ≡ endLine done (reasonOf (s .run))
 unfolding stepLines runFrom
 rest-spent done s = refl
 
 -- before the first step all lines but the heading are left
 pub run-listing : (memory : List ℕ) → runListing memory ≡ heading ++ rest budget 0 (ready memory)
-unfolding runListing run
+unfolding runListing
 run-listing memory = append-assoc heading (stepLines budget 0 (ready memory)) _
 
 -- ---- a run from s₀, listed from a place of a page on, as far as the state s
@@ -84,11 +87,11 @@ module _ {s₀ s : State} {page₀ page after : List ℕ} {at₀ at done end : �
       })
 
   -- the last line
-  pub listed-all : (budget ≤ done) ⊎ (s .run ≡ 0) → Written (endLine done (pick (on (s .run)) Spent Halted)) page at after end
+  pub listed-all : (budget ≤ done) ⊎ (s .run ≡ 0) → Written (endLine done (reasonOf (s .run))) page at after end
       → Written (rest budget 0 s₀) page₀ at₀ after end
   listed-all d w =
       rw (l .whole) (rw (last d) (written-then (l .text) _ (l .written) w))
     where
-      last : (budget ≤ done) ⊎ (s .run ≡ 0) → rest (budget - done) done s ≡ endLine done (pick (on (s .run)) Spent Halted)
+      last : (budget ≤ done) ⊎ (s .run ≡ 0) → rest (budget - done) done s ≡ endLine done (reasonOf (s .run))
       last (inl h) = let none : budget - done ≡ 0 = omega (arith, l .count) in rw none (rest-spent done s)
       last (inr h) = rest-halted (budget - done) done s (ap not (eq-eqb (s .run) 0 h))

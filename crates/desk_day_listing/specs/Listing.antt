@@ -4,6 +4,7 @@ use mathlib.Core.List.{List, [], _∷_, _++_}
 use mathlib.Core.Bool.{true, false}
 use Prim.Native.Nat.{ℕ, zero, suc}
 use Rattle.word.specs.Choice.{on}
+use Rattle.state.specs.Refusals.{reasonOf}
 use Rattle.machine_state.specs.State.{State, word}
 use Rattle.machine_run.specs.Step.{step}
 use Rattle.machine_run.specs.Run.{run}
@@ -42,8 +43,8 @@ stepLines (suc left) done s =
 -- the listing of the run from a loaded memory
 unfoldable pub runListing : List ℕ → List ℕ
 runListing memory =
-    heading ++ stepLines budget 0 (ready memory)
-    ++ endLine (run budget (ready memory) .steps) (run budget (ready memory) .reason)
+    let r = run budget (ready memory) in
+    heading ++ stepLines budget 0 (ready memory) ++ endLine (r .steps) (reasonOf (r .left .run))
 
 -- the output for an input
 unfoldable pub dayListing : List ℕ → List ℕ

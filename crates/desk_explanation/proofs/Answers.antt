@@ -6,23 +6,25 @@ use mathlib.Core.List.{List, [], _++_}
 use Prim.Native.Nat.{ℕ, zero, suc, _+_, _-_, _≤_}
 use native.Mathlib.Omega.{arith}
 use lib.Dec.{lit<}
-use lib.ListN.{length, take, drop, length-append}
+use lib.ListN.{length, take, drop, replicate, length-append}
 use lib.Seq.{take-append-seam}
-use Rattle.word.specs.Choice.{on, pick}
 use Rattle.state.specs.Limits.{budgetLimit, rowPlaces}
+use Rattle.state.specs.Refusals.{reasonOf}
 use Rattle.state.specs.Checks.{checkState}
 use Rattle.state.specs.declared.Reason.{Reason}
-use Rattle.state.specs.declared.Reason.the-variants.{Halted, Spent}
 use Rattle.state.specs.declared.Refusal.{Refusal}
 use Rattle.state.specs.declared.Verdict.{Verdict}
 use Rattle.state.specs.declared.Verdict.the-variants.{Fit, Unfit}
-use Rattle.state.proofs.Accepted.{state-sound}
+use Rattle.state.proofs.Accepted.{state-sound, zeros}
 use Rattle.state.proofs.Numbers.{numbered}
 use Rattle.machine_state.specs.declared.Machine.{Machine}
 use Rattle.machine_state.specs.State.{State, Good, start, registers}
 use Rattle.machine_state.specs.Registers.{machineRegisters, widths, values}
-use Rattle.machine_run.specs.Run.{Run, runFrom, run}
-use Rattle.machine_run.proofs.Runs.{reason-from, run-good}
+use Rattle.runs.specs.Run.{Ended, runFrom}
+use Rattle.runs.proofs.Counts.{steps-within, last-step, no-step}
+use Rattle.machine_run.specs.Step.{step}
+use Rattle.machine_run.specs.Run.{running, run}
+use Rattle.machine_run.proofs.Runs.{run-good}
 use Rattle.emulator.specs.Emulate as emulator
 use Rattle.emulator.specs.Emulate.{emulate}
 use Rattle.emulator.proofs.Starts.{checked-good}
@@ -33,7 +35,12 @@ use Rattle.evaluator.specs.Evaluate.{evaluate}
 use Rattle.evaluator.specs.declared.Outcome.{Outcome}
 use Rattle.evaluator.specs.declared.Outcome.the-variants.{Ran, Unread, Refused}
 use Rattle.desk_last_lines.specs.LastLines.{endLine}
+use Rattle.rows_cycles.specs.Run as cycles
+use Rattle.shipped_rows.specs.Variant.{plain}
 use Rattle.shipped_rows.specs.Text.{shippedText}
+use Rattle.shipped_rows.specs.Shipped.{shipped}
+use Rattle.shipped_rows.proofs.Places as places
+use Rattle.shipped_rows.proofs.Places.{Work}
 use Rattle.shipped.specs.Claim.{Claim, cyclesOf}
 use Rattle.shipped.proofs.Starts.{every-start}
 use Rattle.shipped.proofs.Agree.{runs-agree}
@@ -45,12 +52,11 @@ use Rattle.desk_run_lines.specs.Registers.{registerLines, workingRegisters, wor
 use Rattle.desk_run_lines.specs.Rows.{rowLines}
 use Rattle.desk_explanation.specs.Explanation.{placesOf, told, beforeLast, explained}
 use Rattle.desk_explanation.specs.Answered.{checkedBy, answered, LastStep, pcIn, listedIn}
-use Rattle.desk_explanation.proofs.LastSteps.{steps-within, last-step, no-step}
 
 -- the bytes that tell of a run: the registers after it, its steps, PC and memory before the last and memory after it, the registers of the rows and those that acted
 abbrev text : Machine → ℕ → ℕ → List ℕ → List ℕ → List ℕ → List ℕ → List ℕ
 text after steps pc before memory places rows =
-    endLine steps (pick (on (after .run)) Spent Halted)
+    endLine steps (reasonOf (after .run))
     ++ lastStep steps pc before memory
     ++ registerLines machineRegisters (values after)
     ++ registerLines workingRegisters (workingValues places)
@@ -63,10 +69,16 @@ pub record Told (m : Machine) (memory : List ℕ) (budget : ℕ) (after : Machin
   pub is : answered m memory budget ≡ text after steps pc before mem places (take listed rows)
 
 -- a good state is a start of the claim at every budget, with 0 in the working registers
+abbrev no-work : Work
+no-work = record { i = 0; last = 0; eadd = 0; skip = 0; rest = replicate 6 0 }
+
+no-work-fits : places.Fit no-work
+no-work-fits = record { i = lit< tt; last = lit< tt; eadd = lit< tt; skip = lit< tt; rest = λ k. omega (arith, zeros 6 k) }
+
 claim-for : (m : Machine) (memory : List ℕ) (n : ℕ) (list : List ℕ) → rowPlaces ≤ length list → Good (start m memory) → n ≤ budgetLimit
-    → Claim m (placesOf m) memory n list
+    → Claim plain m (placesOf m) memory n list
 claim-for m memory n list room g h =
-    runs-agree m (placesOf m) memory n list (every-start m memory 0 0 0 0 n list g (lit< tt) (lit< tt) (lit< tt) (lit< tt) h room)
+    runs-agree plain m (placesOf m) memory n list (every-start plain m memory no-work n list g no-work-fits refl h room)
 
 module _ (m : Machine) (memory : List ℕ) (budget : ℕ) where
   checked : (v : Verdict) → checkState widths (values m) memory budget ≡ v → answered m memory budget ≡ checkedBy v m memory budget
@@ -78,7 +90,7 @@ module _ (m : Machine) (memory : List ℕ) (budget : ℕ) where
   unfolding emulate
   unfit-refuses w e = rw (e, emulate)
 
-  abbrev ended : Run
+  abbrev ended : Ended State
   ended = run budget (start m memory)
 
   abbrev early : State
@@ -86,35 +98,26 @@ module _ (m : Machine) (memory : List ℕ) (budget : ℕ) where
 
   -- the explanation of a start by its two runs
   explained-is : explained m memory budget
-      ≡ text (registers (ended .state)) (ended .steps) (early .pc) (early .memory) (ended .state .memory)
-      (cyclesOf (placesOf m) memory budget .state .registers) (cyclesOf (placesOf m) memory budget .acted)
-  unfolding explained told run
-  explained-is =
-      let r = runFrom budget 0 (start m memory) in
-      let b = runFrom (r .steps - 1) 0 (start m memory) .state in
-      let c = cyclesOf (placesOf m) memory budget in
-      ap (λ (why : Reason). endLine (r .steps) why
-      ++ lastStep (r .steps) (b .pc) (b .memory) (r .state .memory)
-      ++ registerLines machineRegisters (values (registers (r .state)))
-      ++ registerLines workingRegisters (workingValues (c .state .registers))
-      ++ rowLines (c .acted))
-      (reason-from budget 0 (start m memory))
+      ≡ text (registers (ended .left)) (ended .steps) (early .pc) (early .memory) (ended .left .memory)
+      (cyclesOf plain (placesOf m) memory budget .left .state .registers) (cyclesOf plain (placesOf m) memory budget .left .acted)
+  unfolding explained told
+  explained-is = refl
 
   -- the lines of the words that the last step changed
-  few-changes : (n : ℕ) → ended .steps ≡ n → length (changeLines 0 (early .memory) (ended .state .memory)) ≤ changeLinesBytes
-  unfolding run runFrom
+  few-changes : (n : ℕ) → ended .steps ≡ n → length (changeLines 0 (early .memory) (ended .left .memory)) ≤ changeLinesBytes
+  unfolding runFrom
   few-changes zero h =
       let none : ended .steps - 1 ≡ 0 = omega arith in
-      subst (λ (k : ℕ). length (changeLines 0 (run k (start m memory) .state .memory) (ended .state .memory)) ≤ changeLinesBytes) (sym none)
-      (subst (λ (s : State). length (changeLines 0 memory (s .memory)) ≤ changeLinesBytes) (sym (no-step budget (start m memory) h))
+      subst (λ (k : ℕ). length (changeLines 0 (run k (start m memory) .left .memory) (ended .left .memory)) ≤ changeLinesBytes) (sym none)
+      (subst (λ (s : State). length (changeLines 0 memory (s .memory)) ≤ changeLinesBytes) (sym (no-step running step budget (start m memory) h))
       (omega (arith, unchanged 0 memory)))
   few-changes (suc n) h =
       let one : ended .steps - 1 ≡ n = omega arith in
-      subst (λ (k : ℕ). length (changeLines 0 (run k (start m memory) .state .memory) (ended .state .memory)) ≤ changeLinesBytes) (sym one)
-      (subst (λ (s : State). length (changeLines 0 (run n (start m memory) .state .memory) (s .memory)) ≤ changeLinesBytes)
-      (sym (last-step budget n (start m memory) h)) (step-few (run n (start m memory) .state)))
+      subst (λ (k : ℕ). length (changeLines 0 (run k (start m memory) .left .memory) (ended .left .memory)) ≤ changeLinesBytes) (sym one)
+      (subst (λ (s : State). length (changeLines 0 (run n (start m memory) .left .memory) (s .memory)) ≤ changeLinesBytes)
+      (sym (last-step running step budget n (start m memory) h)) (step-few (run n (start m memory) .left)))
 
-  last-holds : Good (start m memory) → LastStep (early .pc) (early .memory) (ended .state .memory)
+  last-holds : Good (start m memory) → LastStep (early .pc) (early .memory) (ended .left .memory)
   last-holds g =
       let earlier = run-good (ended .steps - 1) g in
       let later = run-good budget g in
@@ -138,7 +141,7 @@ module _ (m : Machine) (memory : List ℕ) (budget : ℕ) (list : List ℕ) (roo
 
   -- the answers of both engines, and of the emulator at one step fewer, where the check finds the state fit
   fit-told : (after : Machine) (why : Reason) (steps : ℕ) (mem : List ℕ) (x : emulator.Report) (b : evaluator.Report) → checkState widths (values m) memory budget ≡ Fit
-      → emulator.ran after why steps mem ≡ emulate m memory budget → x ≡ emulate m memory (steps - 1) → b ≡ evaluate shippedText (placesOf m) memory budget list
+      → emulator.ran after why steps mem ≡ emulate m memory budget → x ≡ emulate m memory (steps - 1) → b ≡ evaluate (shippedText plain) (placesOf m) memory budget list
       → Told m memory budget after steps (x .machine .pc) (x .memory) mem (b .registers) (b .listed) (b .list)
   fit-told after why steps mem x b e p o q =
       let good = checked-good m memory budget e in
@@ -146,14 +149,14 @@ module _ (m : Machine) (memory : List ℕ) (budget : ℕ) (list : List ℕ) (roo
       let claim = claim-for m memory budget list room good within in
       let s = start m memory in
       let r = run budget s in
-      let c = cyclesOf (placesOf m) memory budget in
-      let acted = c .acted in
+      let c = cyclesOf plain (placesOf m) memory budget in
+      let acted = c .left .acted in
       let same : emulator.ran after why steps mem ≡ emulator.finished r = p ∙ claim .emulated in
       let made : steps ≡ r .steps = ap (λ (y : emulator.Report). y .steps) same in
-      let small : steps - 1 ≤ budgetLimit = omega (arith, steps-within budget s, within) in
+      let small : steps - 1 ≤ budgetLimit = omega (arith, steps-within running step budget s, within) in
       let last : x ≡ emulator.finished (run (r .steps - 1) s) =
       o ∙ claim-for m memory (steps - 1) list room good small .emulated ∙ ap (λ (n : ℕ). emulator.finished (run (n - 1) s)) made in
-      let listed : b ≡ evaluator.finished c list = q ∙ claim .evaluated in
+      let listed : b ≡ evaluator.finished (cycles.running (shipped plain)) c list = q ∙ claim .evaluated in
       let rows : take (b .listed) (b .list) ≡ acted =
       ap (λ (y : evaluator.Report). take (y .listed) (y .list)) listed ∙ take-append-seam acted (drop (length acted) list) in
       let size : length (b .list) ≡ length acted + length (drop (length acted) list) =
@@ -166,15 +169,15 @@ module _ (m : Machine) (memory : List ℕ) (budget : ℕ) (list : List ℕ) (roo
             (subst (λ (y : emulator.Report). LastStep (early m memory budget .pc) (early m memory budget .memory) (y .memory)) (sym same) (last-holds m memory budget good));
         is = checked m memory budget Fit e ∙ explained-is m memory budget
             ∙ sym (ap (λ (y : emulator.Report). text (y .machine) (y .steps) (x .machine .pc) (x .memory) (y .memory) (b .registers) (take (b .listed) (b .list))) same
-            ∙ ap (λ (y : emulator.Report). text (registers (r .state)) (r .steps) (y .machine .pc) (y .memory) (r .state .memory) (b .registers) (take (b .listed) (b .list))) last
-            ∙ ap (λ (y : evaluator.Report). text (registers (r .state)) (r .steps) (early m memory budget .pc) (early m memory budget .memory) (r .state .memory) (y .registers)
+            ∙ ap (λ (y : emulator.Report). text (registers (r .left)) (r .steps) (y .machine .pc) (y .memory) (r .left .memory) (b .registers) (take (b .listed) (b .list))) last
+            ∙ ap (λ (y : evaluator.Report). text (registers (r .left)) (r .steps) (early m memory budget .pc) (early m memory budget .memory) (r .left .memory) (y .registers)
             (take (b .listed) (b .list))) listed
-            ∙ ap (text (registers (r .state)) (r .steps) (early m memory budget .pc) (early m memory budget .memory) (r .state .memory) (c .state .registers)) rows);
+            ∙ ap (text (registers (r .left)) (r .steps) (early m memory budget .pc) (early m memory budget .memory) (r .left .memory) (c .left .state .registers)) rows);
       }
 
   -- where the emulator ran, the check found the state fit
   ran-is : (after : Machine) (why : Reason) (steps : ℕ) (mem : List ℕ) (x : emulator.Report) (b : evaluator.Report)
-      → emulator.ran after why steps mem ≡ emulate m memory budget → x ≡ emulate m memory (steps - 1) → b ≡ evaluate shippedText (placesOf m) memory budget list
+      → emulator.ran after why steps mem ≡ emulate m memory budget → x ≡ emulate m memory (steps - 1) → b ≡ evaluate (shippedText plain) (placesOf m) memory budget list
       → Told m memory budget after steps (x .machine .pc) (x .memory) mem (b .registers) (b .listed) (b .list)
   ran-is after why steps mem x b p o q = go (checkState widths (values m) memory budget) refl
     where
@@ -206,7 +209,7 @@ module _ (m : Machine) (memory : List ℕ) (budget : ℕ) (list : List ℕ) (roo
   refused-by why q = refused-is m memory budget list room why mem (sym (ap (λ (x : Answer). emulator.report m x mem) q) ∙ p)
 
   pub ran-by : (after : Machine) (why : Reason) (steps : ℕ) (o : Outcome) (places second rows : List ℕ) (a : Answer) (before : List ℕ) → e ≡ emulated.Ran after why steps
-      → evaluator.outcomeOf o places second rows ≡ evaluate shippedText (placesOf m) memory budget list → emulator.report m a before ≡ emulate m memory (steps - 1)
+      → evaluator.outcomeOf o places second rows ≡ evaluate (shippedText plain) (placesOf m) memory budget list → emulator.report m a before ≡ emulate m memory (steps - 1)
       → Told m memory budget after steps (pcIn m a) before mem places (listedIn o) rows
   ran-by after why steps o places second rows a before q r x =
       let ran = sym (ap (λ (y : Answer). emulator.report m y mem) q) ∙ p in

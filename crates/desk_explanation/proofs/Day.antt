@@ -4,6 +4,7 @@ use mathlib.Core.Path.{_≡_, refl, ap}
 use mathlib.Core.List.{List, _++_}
 use Prim.Native.Nat.{ℕ}
 use lib.ListN.{length, drop}
+use Rattle.state.specs.Refusals.{reasonOf}
 use Rattle.machine_state.specs.Interrupt.{interruptTest}
 use Rattle.machine_state.specs.declared.Machine.{Machine}
 use Rattle.machine_state.specs.State.{start, registers}
@@ -11,7 +12,8 @@ use Rattle.machine_state.specs.Registers.{machineRegisters, machineOf, values}
 use Rattle.machine_reference.specs.Address.{firstAddress, indexed, effective, afterIndexing}
 use Rattle.machine_reference.specs.Reference.{operation, reference}
 use Rattle.machine_operate.specs.Operate.{changed, rotated, skips, group1, group2, clearsRun, operate}
-use Rattle.machine_run.specs.Step.{execute, halts, makesTest, step}
+use Rattle.runs.specs.Run.{runFrom}
+use Rattle.machine_run.specs.Step.{execute, halts, makesTest, stepWith}
 use Rattle.machine_run.specs.Run as steps
 use Rattle.characters.specs.Ascii.{ascii}
 use Rattle.page.specs.Text.{octal, decimalIn, decimal}
@@ -26,6 +28,7 @@ use Rattle.characters.specs.Named.{find}
 use Rattle.text_declaration.specs.Rows.{Description}
 use Rattle.rows_cycles.specs.Cycle.{cycleFrom}
 use Rattle.rows_cycles.specs.Run as cycles
+use Rattle.shipped_rows.specs.Variant.{plain}
 use Rattle.shipped_rows.specs.Text.{shippedText}
 use Rattle.shipped_rows.proofs.Tree.{tree}
 use Rattle.shipped_rows.proofs.Accepted.{shipped-is}
@@ -53,15 +56,15 @@ toldBy m memory budget d =
     let r = steps.run budget (start m memory) in
     let before = beforeLast m memory (r .steps) in
     let c = cycles.run d budget (record { registers = placesOf m; memory = memory }) in
-    endLine (r .steps) (r .reason)
-    ++ lastStep (r .steps) (before .pc) (before .memory) (r .state .memory)
-    ++ registerLines machineRegisters (values (registers (r .state)))
-    ++ registerLines (drop (length machineRegisters) (d .registers)) (workingValues (c .state .registers))
-    ++ rowLines (c .acted)
+    endLine (r .steps) (reasonOf (r .left .run))
+    ++ lastStep (r .steps) (before .pc) (before .memory) (r .left .memory)
+    ++ registerLines machineRegisters (values (registers (r .left)))
+    ++ registerLines (drop (length machineRegisters) (d .registers)) (workingValues (c .left .state .registers))
+    ++ rowLines (c .left .acted)
 
-by-tree : (m : Machine) (memory : List ℕ) (budget : ℕ) → explained m memory budget ≡ toldBy m memory budget tree
+by-tree : (m : Machine) (memory : List ℕ) (budget : ℕ) → explained m memory budget ≡ toldBy m memory budget (tree plain)
 unfolding told explained
-by-tree m memory budget = ap (toldBy m memory budget) shipped-is
+by-tree m memory budget = ap (toldBy m memory budget) (shipped-is plain)
 
 -- (L)
 abbrev input : List ℕ
@@ -72,5 +75,5 @@ pub day : explanation input
     ++ ascii "i\t7402\nlast.pc\t0203\neadd\t0204\nskip\t0\n"
     ++ ascii "1\tdo\t1\ti\tM[PC]\n2\tdo\t1\tlast.pc\tPC\n3\tdo\t1\tPC\tPC + 1\n5\tgo\ti<0:2> Eql #7\topr\nat\topr\t35\n35\tgo\ti<3>\tgroup.2\nat\tgroup.2\t48\n"
     ++ ascii "49\tdo\t1\tskip\t0\n54\tgo\t1\tdecided\nat\tdecided\t59\n62\tdo\ti<10>\tRUN\t0\n63\tgo\ti<10>\trestart\nat\trestart\t71\n"
-unfolding interruptTest makesTest halts clearsRun firstAddress indexed effective afterIndexing operation reference changed rotated skips group1 group2 operate execute step steps.runFrom steps.run octal decimalIn decimal endLine clear bytes.run same numberAt lines field hasFields find cycleFrom cycles.runFrom cycles.run shippedText wordEntry registerEntry budgetEntry said entry ready entered afterLines firstUnfit names namesOf spaced mnemonic lastLine wordLine changeLines lastStep passes rowTexts atLine labelLine rowLine rowLines explanation
+unfolding interruptTest makesTest halts clearsRun firstAddress indexed effective afterIndexing operation reference changed rotated skips group1 group2 operate execute stepWith runFrom octal decimalIn decimal endLine clear bytes.run same numberAt lines field hasFields find cycleFrom shippedText wordEntry registerEntry budgetEntry said entry ready entered afterLines firstUnfit names namesOf spaced mnemonic lastLine wordLine changeLines lastStep passes rowTexts atLine labelLine rowLine rowLines explanation
 day = let q = asked input in by-tree (machineOf (q .registers)) (q .memory) (q .budget)

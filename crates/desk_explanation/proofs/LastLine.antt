@@ -10,6 +10,7 @@ use lib.Dec.{ltb}
 use borrow.Author.Tests.{ne-eqb}
 use Rattle.laws.proofs.Tests.{by-test}
 use Rattle.word.specs.Choice.{on}
+use Rattle.state.specs.Refusals.{reasonOf}
 use Rattle.state.specs.declared.Reason.{Reason}
 use Rattle.state.specs.declared.Reason.the-variants.{Halted, Spent}
 use Rattle.characters.specs.Ascii.{ascii, tab, lineFeed, digit}
@@ -42,7 +43,7 @@ begins-longer {line} {text} more b = record { rest = b .rest ++ more; is = ap (�
 
 -- the run's last line comes first
 end-first : (m : Machine) (memory : List ℕ) (budget : ℕ)
-    → Begins (endLine (run budget (start m memory) .steps) (run budget (start m memory) .reason)) (explained m memory budget)
+    → Begins (endLine (run budget (start m memory) .steps) (reasonOf (run budget (start m memory) .left .run))) (explained m memory budget)
 unfolding explained told
 end-first m memory budget = search (begins-longer, begins-itself)
 
@@ -118,11 +119,11 @@ module _ (text : List ℕ) (fit : firstUnfit isWordLine 1 (lines text) ≡ 0) wh
 
   -- how the run of its memory ends
   abbrev ends : List ℕ
-  ends = endLine (run listing.budget (listing.ready memory) .steps) (run listing.budget (listing.ready memory) .reason)
+  ends = endLine (run listing.budget (listing.ready memory) .steps) (reasonOf (run listing.budget (listing.ready memory) .left .run))
 
   -- without its LF
   abbrev end : List ℕ
-  end = endBytes (run listing.budget (listing.ready memory) .steps) (run listing.budget (listing.ready memory) .reason)
+  end = endBytes (run listing.budget (listing.ready memory) .steps) (reasonOf (run listing.budget (listing.ready memory) .left .run))
 
   abbrev above : List ℕ
   above = listing.heading ++ listing.stepLines listing.budget 0 (listing.ready memory)

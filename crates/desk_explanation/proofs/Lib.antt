@@ -1,4 +1,3 @@
-pub mod LastSteps
 pub mod Answers
 pub mod Sizes
 pub mod ByText

@@ -15,13 +15,13 @@ ghost use mathlib.Core.Path.{_≡_};
 ghost use mathlib.Core.List.{_++_};
 ghost use Prim.Native.Nat.{_-_, _≤_};
 ghost use lib.ListN.{length, take};
-ghost use Rattle.word.specs.Choice.{on, pick};
-ghost use Rattle.state.specs.declared.Reason.the-variants.{Halted, Spent};
+ghost use Rattle.state.specs.Refusals.{reasonOf};
 ghost use Rattle.machine_state.specs.Registers.{machineRegisters, values};
 ghost use Rattle.page.specs.Page.{Page};
 ghost use Rattle.desk_last_lines.specs.LastLines.{endLine};
 ghost use Rattle.emulator.specs.Emulate as emulation;
 ghost use Rattle.evaluator.specs.Evaluate.{report};
+ghost use Rattle.shipped_rows.specs.Variant.{plain};
 ghost use Rattle.shipped.specs.Claim.{Together};
 ghost use Rattle.desk_inquiry.specs.Scan.{kept};
 ghost use Rattle.desk_last_step.specs.LastStep.{lastStep};
@@ -52,7 +52,7 @@ fn run_on(
     budget: u64,
     list: &mut [u8; ROW_PLACES],
 ) -> Both
-    ensures { λ r. ⌜ Together m (placesOf m) (now (first .entry)) (now (second .entry)) budget (now (list .entry))
+    ensures { λ r. ⌜ Together plain m (placesOf m) (now (first .entry)) (now (second .entry)) budget (now (list .entry))
         (emulation.report m (r .emulated) (now (first .exit))) (report (r .evaluated) (now (second .exit)) (now (list .exit))) ⌝ }
 {
     shipped::run_both(first, second, m, places_of(m), budget, list)
@@ -107,7 +107,7 @@ fn put_answer(
     n: usize,
 ) -> usize
     requires { ⌜ LastStep pc (now before) (now memory) ⌝ ∗ ⌜ n ≤ length (now list) ⌝ }
-    ensures { λ r. ⌜ Page (endLine steps (pick (on (m .run)) Spent Halted) ++ lastStep steps pc (now (before .entry)) (now (memory .entry)) ++ registerLines machineRegisters (values m)
+    ensures { λ r. ⌜ Page (endLine steps (reasonOf (m .run)) ++ lastStep steps pc (now (before .entry)) (now (memory .entry)) ++ registerLines machineRegisters (values m)
         ++ registerLines workingRegisters (workingValues places) ++ rowLines (take n (now (list .entry)))) (now (page .entry)) (now (page .exit)) r ⌝ }
 {
     let step = desk_last_lines::put_end_line(page, 0, steps, m.run as u64);

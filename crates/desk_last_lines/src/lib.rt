@@ -5,8 +5,7 @@ use page::put_decimal;
 use page::put_text;
 ghost use Prim.Native.Nat.{_+_, _≤_};
 ghost use lib.ListN.{length};
-ghost use Rattle.word.specs.Choice.{on, pick};
-ghost use Rattle.state.specs.declared.Reason.the-variants.{Halted, Spent};
+ghost use Rattle.state.specs.Refusals.{reasonOf};
 ghost use Rattle.page.specs.Text.{decimal};
 ghost use Rattle.page.specs.Written.{Written};
 ghost use Rattle.page.specs.Page.{Page};
@@ -15,7 +14,7 @@ ghost use Rattle.desk_last_lines.specs.LastLines.{endLine, refusedLine};
 // The last line of a run: it halted where RUN is 0, else its budget is spent. Beside the digits it has at most 12 bytes.
 pub fn put_end_line(page: &mut [u8], at: usize, steps: u64, run: u64) -> usize
     requires { ⌜ at + 12 + length (decimal steps) ≤ length (now page) ⌝ }
-    ensures { λ r. ⌜ Written (endLine steps (pick (on run) Spent Halted)) (now (page .entry)) at (now (page .exit)) r ⌝ }
+    ensures { λ r. ⌜ Written (endLine steps (reasonOf run)) (now (page .entry)) at (now (page .exit)) r ⌝ }
 {
     let count = put_text(page, at, b"end\t");
     let reason = put_decimal(page, count, steps);

@@ -17,7 +17,7 @@ use Rattle.machine_operate.specs.Operate.{group1, group2, group3, operate}
 use Rattle.machine_reference.specs.Address.{firstAddress, isIndex, indexed, effective, afterIndexing}
 use Rattle.machine_reference.specs.Reference.{operation, reference}
 use Rattle.machine_reference.proofs.Ops.{by-op}
-use Rattle.machine_run.specs.Step.{execute, makesTest, step}
+use Rattle.machine_run.specs.Step.{execute, makesTest, stepWith, step}
 use Rattle.desk_last_step.specs.LastStep.{changeLines}
 use Rattle.desk_last_step.specs.Sizes.{wordLineBytes, changeLinesBytes}
 use Rattle.desk_last_step.proofs.Changes.{unchanged, stored-size}
@@ -41,7 +41,7 @@ module _ (before : List ℕ) (n : ℕ) where
   interrupt-few s h =
       pick-either (FewIn before (n + wordLineBytes)) (takesInterrupt s) (stores (s .memory) 0 (s .pc) h) (more (s .memory) h)
 
-  tested-few : (made : Bool) (s : State) → FewIn before n s → FewIn before (n + wordLineBytes) (testedIf made s)
+  tested-few : (made : Bool) (s : State) → FewIn before n s → FewIn before (n + wordLineBytes) (testedIf interruptTest made s)
   tested-few made s h = pick-either (FewIn before (n + wordLineBytes)) made (interrupt-few s h) (more (s .memory) h)
 
   indexed-few : (a : ℕ) (memory : List ℕ) → Few before n memory → Few before (n + wordLineBytes) (indexed a memory)
@@ -87,7 +87,7 @@ execute-few before n i last s h =
     (pick-either P (eqb (op i) 7) (omega (arith, operate-few before n i s h)) (reference-few before n i last s h))
 
 pub step-few : (s : State) → length (changeLines 0 (s .memory) (step s .memory)) ≤ changeLinesBytes
-unfolding step
+unfolding stepWith
 step-few s =
     let i : ℕ = word (s .pc) s in
     tested-few (s .memory) (wordLineBytes + wordLineBytes) (makesTest i) _

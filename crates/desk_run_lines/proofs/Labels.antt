@@ -8,6 +8,7 @@ use Rattle.characters.specs.Characters.{run, same}
 use Rattle.text_fields.specs.Fields.{lines, field}
 use Rattle.text_declaration.specs.Rows.{Row, does, goes, Description}
 use Rattle.text_targets.specs.Targets.{passes}
+use Rattle.shipped_rows.specs.Variant.{plain}
 use Rattle.shipped_rows.specs.Text.{shippedText}
 use Rattle.shipped_rows.specs.Shipped.{shipped}
 use Rattle.shipped_rows.proofs.Tree.{tree}
@@ -22,11 +23,11 @@ continues k (goes c n ∷ rs) = (k + 1 + n) ∷ continues (suc k) rs
 
 -- the same by the lines and their labels
 abbrev named : List ℕ → ℕ
-named line = pick (isGo line) (rowBelow (labelOf line) shippedText) 0
+named line = pick (isGo line) (rowBelow (labelOf line) (shippedText plain)) 0
 
-in-tree : map named (rowTexts (lines shippedText)) ≡ continues 1 (tree .rows)
+in-tree : map named (rowTexts (lines (shippedText plain))) ≡ continues 1 (tree plain .rows)
 unfolding run same lines field passes rowTexts shippedText
 in-tree = refl
 
-pub labels-lead : map named (rowTexts (lines shippedText)) ≡ continues 1 (shipped .rows)
-labels-lead = in-tree ∙ ap (λ (d : Description). continues 1 (d .rows)) (sym shipped-is)
+pub labels-lead : map named (rowTexts (lines (shippedText plain))) ≡ continues 1 (shipped plain .rows)
+labels-lead = in-tree ∙ ap (λ (d : Description). continues 1 (d .rows)) (sym (shipped-is plain))

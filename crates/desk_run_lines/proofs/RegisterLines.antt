@@ -16,6 +16,7 @@ use Rattle.page.specs.Text.{octal}
 use Rattle.page.specs.Written.{Written}
 use Rattle.page.proofs.Numbers.{octal-length}
 use Rattle.text_declaration.specs.Rows.{Description}
+use Rattle.shipped_rows.specs.Variant.{plain}
 use Rattle.shipped_rows.proofs.Accepted.{shipped-is}
 use Rattle.desk_run_lines.specs.Registers.{registerLine, registerLines, workingRegisters, workingValues}
 use Rattle.desk_run_lines.specs.Sizes.{registerLinesBytes, workingLinesBytes}
@@ -69,7 +70,7 @@ lines-more rs vs z k h q = rw (add-one k) (next-line rs vs z k h q)
 pub working-registers : workingRegisters
     ≡ record { name = ascii "i"; number = 12 } ∷ record { name = ascii "last.pc"; number = 12 }
     ∷ record { name = ascii "eadd"; number = 12 } ∷ record { name = ascii "skip"; number = 1 } ∷ []
-working-registers = ap (λ (d : Description). drop (length machineRegisters) (d .registers)) shipped-is
+working-registers = ap (λ (d : Description). drop (length machineRegisters) (d .registers)) (shipped-is plain)
 
 -- they stand at places 6 to 9
 pub working-values : (values : List ℕ) → length values ≡ 16

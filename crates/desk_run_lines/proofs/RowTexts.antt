@@ -19,6 +19,7 @@ use Rattle.text_fields.specs.Fields.{before, after, Line, lines, field}
 use Rattle.text_fields.specs.Rests.{firstLine}
 use Rattle.text_fields.proofs.Lines.{first-line}
 use Rattle.laws.proofs.Joined.{and-left, and-right}
+use Rattle.shipped_rows.specs.Variant.{plain}
 use Rattle.shipped_rows.specs.Text.{shippedText}
 use Rattle.text_targets.specs.Targets.{isRow, passes}
 use Rattle.desk_run_lines.specs.Rows.{rowTexts, rowOf, isGo, labelOf, rowBelow, atLine, labelLine, rowLine, rowLines}
@@ -70,15 +71,15 @@ rowTextBytes = 50
 abbrev itself : List ℕ → List ℕ
 itself l = l
 
-shipped-within : allWithin itself rowTextBytes (rowTexts (lines shippedText)) ≡ true
+shipped-within : allWithin itself rowTextBytes (rowTexts (lines (shippedText plain))) ≡ true
 unfolding run same lines field rowTexts shippedText
 shipped-within = refl
 
-pub row-size : (k : ℕ) → length (rowOf k shippedText) ≤ rowTextBytes
-row-size k = each-within itself rowTextBytes (rowTexts (lines shippedText)) (omega arith) shipped-within (k - 1)
+pub row-size : (k : ℕ) → length (rowOf k (shippedText plain)) ≤ rowTextBytes
+row-size k = each-within itself rowTextBytes (rowTexts (lines (shippedText plain))) (omega arith) shipped-within (k - 1)
 
 -- and the line of its label
-labels-within : allWithin labelLine labelLineBytes (rowTexts (lines shippedText)) ≡ true
+labels-within : allWithin labelLine labelLineBytes (rowTexts (lines (shippedText plain))) ≡ true
 unfolding run same lines field decimalIn decimal passes rowTexts shippedText atLine labelLine
 labels-within = refl
 
@@ -86,8 +87,8 @@ no-label : length (labelLine []) ≤ labelLineBytes
 unfolding run same field labelLine
 no-label = omega arith
 
-pub label-size : (k : ℕ) → length (labelLine (rowOf k shippedText)) ≤ labelLineBytes
-label-size k = each-within labelLine labelLineBytes (rowTexts (lines shippedText)) no-label labels-within (k - 1)
+pub label-size : (k : ℕ) → length (labelLine (rowOf k (shippedText plain))) ≤ labelLineBytes
+label-size k = each-within labelLine labelLineBytes (rowTexts (lines (shippedText plain))) no-label labels-within (k - 1)
 
 -- with a number below 256, the TAB and the LF
 pub row-line-size : (k : ℕ) → k < 256 → length (rowLine k) ≤ rowLineBytes
@@ -104,13 +105,13 @@ pub at-size : (label : List ℕ) (row : ℕ) → length (atLine label row) ≡ l
 unfolding atLine
 at-size label row = simp length-append (omega arith)
 
-pub go-label : (line : List ℕ) → isGo line ≡ true → labelLine line ≡ atLine (labelOf line) (rowBelow (labelOf line) shippedText)
+pub go-label : (line : List ℕ) → isGo line ≡ true → labelLine line ≡ atLine (labelOf line) (rowBelow (labelOf line) (shippedText plain))
 unfolding labelLine
-go-label line t = ap (λ (b : Bool). pick b (atLine (labelOf line) (rowBelow (labelOf line) shippedText)) []) t
+go-label line t = ap (λ (b : Bool). pick b (atLine (labelOf line) (rowBelow (labelOf line) (shippedText plain))) []) t
 
 pub no-go : (line : List ℕ) → isGo line ≡ false → labelLine line ≡ []
 unfolding labelLine
-no-go line t = ap (λ (b : Bool). pick b (atLine (labelOf line) (rowBelow (labelOf line) shippedText)) []) t
+no-go line t = ap (λ (b : Bool). pick b (atLine (labelOf line) (rowBelow (labelOf line) (shippedText plain))) []) t
 
 -- ---- lines of rows
 

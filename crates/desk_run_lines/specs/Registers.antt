@@ -7,6 +7,7 @@ use Rattle.characters.specs.Ascii.{tab, lineFeed}
 use Rattle.page.specs.Text.{octal}
 use Rattle.characters.specs.Named.{Named}
 use Rattle.machine_state.specs.Registers.{machineRegisters, digitsOf}
+use Rattle.shipped_rows.specs.Variant.{plain}
 use Rattle.shipped_rows.specs.Shipped.{shipped}
 
 -- "its name and the value that the run leaves, in octal with a digit for every three bits begun"
@@ -21,7 +22,7 @@ registerLines (r ∷ rs) (v ∷ vs) = registerLine r v ++ registerLines rs vs
 
 -- "A shipped description's registers that the emulator lacks are its working registers": those after the machine's
 abbrev pub workingRegisters : List Named
-workingRegisters = drop (length machineRegisters) (shipped .registers)
+workingRegisters = drop (length machineRegisters) (shipped plain .registers)
 
 -- their values among those of a description's registers
 abbrev pub workingValues : List ℕ → List ℕ

@@ -10,6 +10,7 @@ use Rattle.page.specs.Text.{decimal}
 use Rattle.characters.specs.Characters.{same}
 use Rattle.text_fields.specs.Fields.{Line, lines, field}
 use Rattle.text_declaration.specs.Lines.{goWord}
+use Rattle.shipped_rows.specs.Variant.{plain}
 use Rattle.shipped_rows.specs.Text.{shippedText}
 use Rattle.text_targets.specs.Targets.{isRow, passes}
 use Rattle.text_targets.specs.declared.Target.{Target}
@@ -46,11 +47,11 @@ atLine label row = ascii "at" ++ tab ∷ label ++ tab ∷ decimal row ++ lineFee
 
 -- "after each row that is a `go`"; nothing after another
 unfoldable pub labelLine : List ℕ → List ℕ
-labelLine line = pick (isGo line) (atLine (labelOf line) (rowBelow (labelOf line) shippedText)) []
+labelLine line = pick (isGo line) (atLine (labelOf line) (rowBelow (labelOf line) (shippedText plain))) []
 
 -- "its number, and its line of description/pdp8.rows"
 unfoldable pub rowLine : ℕ → List ℕ
-rowLine k = decimal k ++ tab ∷ rowOf k shippedText ++ lineFeed ∷ [] ++ labelLine (rowOf k shippedText)
+rowLine k = decimal k ++ tab ∷ rowOf k (shippedText plain) ++ lineFeed ∷ [] ++ labelLine (rowOf k (shippedText plain))
 
 -- a line for each row
 unfoldable pub rowLines : List ℕ → List ℕ

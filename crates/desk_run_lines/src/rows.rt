@@ -12,6 +12,7 @@ ghost use Prim.Native.Nat.{_+_, _-_, _*_, _<_, _≤_};
 ghost use lib.ListN.{length, take};
 ghost use Rattle.word.specs.Choice.{pick};
 ghost use Rattle.page.specs.Written.{Written};
+ghost use Rattle.shipped_rows.specs.Variant.{plain};
 ghost use Rattle.shipped_rows.specs.Text.{shippedText};
 ghost use Rattle.desk_run_lines.specs.Rows.{rowOf, rowBelow, atLine, labelLine, rowLine, rowLines};
 ghost use Rattle.desk_run_lines.specs.Sizes.{rowLineBytes, Listed};
@@ -52,8 +53,8 @@ fn row_of(text: &[u8], k: usize) -> &[u8]
 
 // The number of the first row below a label, 0 where the label isn't there.
 fn row_below(text: &[u8; DESCRIPTION_BYTES], label: &[u8]) -> u64
-    requires { ⌜ now text ≡ shippedText ⌝ }
-    ensures { λ r. ⌜ r ≡ rowBelow (now (label .entry)) shippedText ⌝ }
+    requires { ⌜ now text ≡ shippedText plain ⌝ }
+    ensures { λ r. ⌜ r ≡ rowBelow (now (label .entry)) (shippedText plain) ⌝ }
 {
     match text_targets::passes(label, text) {
         Target::Passes(above) => above as u64 + 1,
@@ -80,7 +81,7 @@ fn put_label(
     text: &[u8; DESCRIPTION_BYTES],
     line: &[u8],
 ) -> usize
-    requires { ⌜ now text ≡ shippedText ⌝ ∗ ⌜ at + length (labelLine (now line)) ≤ pageBytes ⌝ }
+    requires { ⌜ now text ≡ shippedText plain ⌝ ∗ ⌜ at + length (labelLine (now line)) ≤ pageBytes ⌝ }
     ensures { λ r. ⌜ Written (labelLine (now (line .entry))) (now (page .entry)) at (now (page .exit)) r ⌝ }
 {
     if characters::is_same(text_fields::field_of(line, 0), b"go") {
@@ -94,7 +95,7 @@ fn put_label(
 
 // The line of row k, and that of its label.
 fn put_row(page: &mut [u8; PAGE_BYTES], at: usize, text: &[u8; DESCRIPTION_BYTES], k: u8) -> usize
-    requires { ⌜ now text ≡ shippedText ⌝ ∗ ⌜ at + rowLineBytes ≤ pageBytes ⌝ }
+    requires { ⌜ now text ≡ shippedText plain ⌝ ∗ ⌜ at + rowLineBytes ≤ pageBytes ⌝ }
     ensures { λ r. ⌜ Written (rowLine k) (now (page .entry)) at (now (page .exit)) r ⌝ }
 {
     let tab = put_decimal(page, at, k as u64);

@@ -30,7 +30,7 @@ checked-good m memory budget e =
     record { lac = fit 0; pc = fit 1; run = fit 2; enable = fit 3; request = fit 4; switches = fit 5; memory = sound .0 }
 
 -- the values of a good state fit their places
-good-fitting : (m : Machine) (memory : List ℕ) → Good (start m memory) → Fitting widths (values m)
+pub good-fitting : (m : Machine) (memory : List ℕ) → Good (start m memory) → Fitting widths (values m)
 good-fitting m memory g =
     record {
       narrow =

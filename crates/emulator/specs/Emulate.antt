@@ -2,7 +2,7 @@
 -- Assumes nothing.
 use Prim.Native.Nat.{ℕ}
 use mathlib.Core.List.{List}
-use Rattle.state.specs.Refusals.{numberOf, placeOf, reasonNumber}
+use Rattle.state.specs.Refusals.{numberOf, placeOf, reasonOf, reasonNumber}
 use Rattle.state.specs.Checks.{checkState}
 use Rattle.state.specs.declared.Reason.{Reason}
 use Rattle.state.specs.declared.Refusal.{Refusal}
@@ -10,9 +10,10 @@ use Rattle.state.specs.declared.Verdict.the-variants.{Fit, Unfit}
 use Rattle.machine_state.specs.declared.Machine.{Machine}
 use Rattle.emulator.specs.declared.Answer.{Answer}
 use Rattle.emulator.specs.declared.Answer.the-variants.{Ran, Refused}
-use Rattle.machine_state.specs.State.{start, registers}
+use Rattle.machine_state.specs.State.{State, start, registers}
 use Rattle.machine_state.specs.Registers.{widths, values}
-use Rattle.machine_run.specs.Run.{Run, run}
+use Rattle.runs.specs.Run.{Ended}
+use Rattle.machine_run.specs.Run.{run}
 
 -- everything that a caller finds after the call, in document 01's numbers
 pub record Report : Type 0 where
@@ -42,8 +43,8 @@ report m (Ran after why steps) memory = ran after why steps memory
 report m (Refused why) memory = refused why m memory
 
 -- what a run comes to
-abbrev pub finished : Run → Report
-finished r = ran (registers (r .state)) (r .reason) (r .steps) (r .state .memory)
+abbrev pub finished : Ended State → Report
+finished r = ran (registers (r .left)) (reasonOf (r .left .run)) (r .steps) (r .left .memory)
 
 unfoldable pub emulate : Machine → List ℕ → ℕ → Report
 emulate m memory budget = elim (checkState widths (values m) memory budget) [ Fit ↦ finished (run budget (start m memory)) | Unfit why ↦ refused why m memory ]

@@ -5,9 +5,7 @@ use state::Reason;
 use state::Refusal;
 use state::Verdict;
 ghost use mathlib.Core.Path.{_≡_};
-ghost use Rattle.word.specs.Choice.{on, pick};
 ghost use Rattle.state.specs.Checks.{checkState};
-ghost use Rattle.state.specs.declared.Reason.the-variants.{Halted, Spent};
 ghost use Rattle.machine_state.specs.State.{start, Good};
 ghost use Rattle.machine_state.specs.Processor.{narrowed, Narrow};
 ghost use Rattle.machine_state.specs.Registers.{values, widths};
@@ -58,17 +56,6 @@ fn closed(p: Processor) -> Machine
     }
 }
 
-// Why a run ended.
-fn reason(run: u64) -> Reason
-    ensures { λ r. ⌜ r ≡ pick (on run) Spent Halted ⌝ }
-{
-    if run != 0 {
-        Reason::Spent
-    } else {
-        Reason::Halted
-    }
-}
-
 // The run of a state that no check turns down.
 fn finished(memory: &mut [u16], m: Machine, budget: u64) -> Answer
     requires { ⌜ Good (start m (now memory)) ⌝ }
@@ -76,7 +63,7 @@ fn finished(memory: &mut [u16], m: Machine, budget: u64) -> Answer
 {
     let end = machine_run::run::run(memory, opened(m), budget);
     let p = end.processor;
-    Answer::Ran(closed(p), reason(p.run), end.steps)
+    Answer::Ran(closed(p), state::reason_of(p.run), end.steps)
 }
 
 // A run of a budget, or the first refusal of 11 to 14, after which all is as it came.

@@ -14,7 +14,7 @@ use Rattle.word.specs.Choice.{pick}
 use Rattle.word.specs.Word.{widest, fits}
 use Rattle.state.specs.Limits.{memoryWords, budgetLimit}
 use Rattle.state.specs.Acceptable.{Acceptable, Fitting}
-use Rattle.state.specs.Refusals.{orElse}
+use Rattle.state.specs.Refusals.{reasonOf, orElse}
 use Rattle.state.specs.Refusals as state
 use Rattle.state.specs.Checks.{firstTooWide, checkMemory, checkBudget, checkState, checkRowList}
 use Rattle.state.specs.declared.Reason.{Reason}
@@ -49,7 +49,9 @@ use Rattle.rows_value.specs.Value.{State}
 use Rattle.rows_value.specs.Fitting as fitting
 use Rattle.rows_value.specs.Words.{codePlaces}
 use Rattle.rows_value.proofs.Widths.{width-of}
-use Rattle.rows_cycles.specs.Run.{Run, running, run}
+use Rattle.runs.specs.Run.{Ended}
+use Rattle.rows_cycles.specs.Cycle.{Cycle}
+use Rattle.rows_cycles.specs.Run.{running, run}
 use Rattle.rows_cycles.specs.declared.run.Course as course
 use Rattle.rows_cycles.specs.Stored.{runAt, coursing, Coursed}
 use Rattle.rows_cycles.proofs.TableRuns.{tables-run}
@@ -57,6 +59,13 @@ use Rattle.evaluator.specs.Evaluate.{Report, refused, finished, widthsOf
 use Rattle.evaluator.specs.declared.Outcome.the-variants.{Ran}
 use Rattle.evaluator.specs.Padded.{widthAt, padded, checkPadded}
 use Rattle.evaluator.proofs.Padding.{padded-at, padded-past}
+
+-- what a run comes to, by another reading of RUN that is the same at its end
+finished-by : (f g : State → ℕ) (r : Ended Cycle) (list : List ℕ) → f (r .left .state) ≡ g (r .left .state) → finished f r list ≡ finished g r list
+finished-by f g r list e =
+    let last = r .left in
+    ap (λ (n : ℕ). outcomeOf (Ran (reasonOf n) (r .steps) (length (last .acted))) (last .state .registers) (last .state .memory)
+    (last .acted ++ drop (length (last .acted)) list)) e
 
 -- the checks go by each place's width alone
 too-wide-ext : (f g : ℕ → ℕ) → ((k : ℕ) → f k ≡ g k) → (at : ℕ) (xs : List ℕ) → firstTooWide f at xs ≡ firstTooWide g at xs
@@ -143,7 +152,7 @@ module _ (text : List ℕ) (r : Findings) {code₀ code table₀ table : List �
           ∙ ap (λ (v : Verdict). orElse v (checkRowList (length list))) (state-ext (padded (r .registers)) (widthsOf described) same-width registers memory budget)
 
       abbrev by-verdict : Verdict → Report
-      by-verdict Fit = finished (run described budget start) list
+      by-verdict Fit = finished (running described) (run described budget start) list
       by-verdict (Unfit why) = refused (state.numberOf why) (state.placeOf why) registers memory list
 
       evaluated : {v : Verdict} → found ≡ v → evaluate text registers memory budget list ≡ by-verdict v
@@ -173,18 +182,21 @@ module _ (text : List ℕ) (r : Findings) {code₀ code table₀ table : List �
 
         pub run-told : length registers ≡ mostRegisters → length code₀ ≡ codePlaces → length table₀ ≡ rowCells * mostRows
             → (place : ℕ) → place ≡ find runName (described .registers)
-            → finished (coursing code table (r .rows) place budget start) list ≡ evaluate text registers memory budget list
+            → finished (runAt place) (coursing code table (r .rows) place budget start) list ≡ evaluate text registers memory budget list
         run-told places lc lt place p =
-            ap (λ (x : Run). finished x list)
+            ap (λ (x : Ended Cycle). finished (runAt place) x list)
             (tables-run described formed code₀ table₀ code table (r .rows) place (stored .0) lc lt (stored .1 .0) (stored .1 .1)
             (run-read place p) budget start (fits-registers places))
+            ∙ finished-by (runAt place) (running described) (run described budget start) list (run-read place p (run described budget start .left .state))
             ∙ sym (evaluated e)
 
 -- a run's end and the rows put at the front of a caller's list
-pub finish : (x : Run) (t : course.Course) (memory list rows rows′ : List ℕ) → Coursed x t memory list → rows′ ≡ take (t .listed) list ++ drop (t .listed) rows
-    → report (record { registers = t .registers; outcome = Ran (t .reason) (t .steps) (t .listed) }) memory rows′ ≡ finished x rows
-finish x t memory list rows rows′ k e =
+pub finish : (place : ℕ) (x : Ended Cycle) (t : course.Course) (memory list rows rows′ : List ℕ) → Coursed place x t memory list
+    → rows′ ≡ take (t .listed) list ++ drop (t .listed) rows
+    → report (record { registers = t .registers; outcome = Ran (t .reason) (t .steps) (t .listed) }) memory rows′ ≡ finished (runAt place) x rows
+finish place x t memory list rows rows′ k e =
+    let last = x .left in
     ap (λ (s : State). outcomeOf (Ran (t .reason) (t .steps) (t .listed)) (s .registers) (s .memory) rows′) (k .state-is)
-    ∙ ap₂ (λ (w : Reason) (n : ℕ). outcomeOf (Ran w n (t .listed)) (x .state .registers) (x .state .memory) rows′) (k .reason-is) (k .steps-are)
-    ∙ ap₂ (λ (n : ℕ) (l : List ℕ). outcomeOf (Ran (x .reason) (x .steps) n) (x .state .registers) (x .state .memory) l) (k .count-is)
+    ∙ ap₂ (λ (w : Reason) (n : ℕ). outcomeOf (Ran w n (t .listed)) (last .state .registers) (last .state .memory) rows′) (k .reason-is) (k .steps-are)
+    ∙ ap₂ (λ (n : ℕ) (l : List ℕ). outcomeOf (Ran (reasonOf (runAt place (last .state))) (x .steps) n) (last .state .registers) (last .state .memory) l) (k .count-is)
     (e ∙ ap₂ (λ (l : List ℕ) (n : ℕ). l ++ drop n rows) (k .list-is) (k .count-is))

@@ -3,7 +3,7 @@
 use mathlib.Core.List.{List, map, _++_}
 use Prim.Native.Nat.{ℕ}
 use lib.ListN.{length, drop}
-use Rattle.state.specs.Refusals.{placeOf, reasonNumber, orElse}
+use Rattle.state.specs.Refusals.{placeOf, reasonOf, reasonNumber, orElse}
 use Rattle.state.specs.Refusals as state
 use Rattle.state.specs.Checks.{checkState, checkRowList}
 use Rattle.state.specs.declared.Verdict.{Verdict}
@@ -16,7 +16,10 @@ use Rattle.text_description.specs.Description.{accepted, turnedDown, readText}
 use Rattle.evaluator.specs.declared.Answer.{Answer}
 use Rattle.evaluator.specs.declared.Outcome.{Outcome}
 use Rattle.evaluator.specs.declared.Outcome.the-variants.{Ran, Unread, Refused}
-use Rattle.rows_cycles.specs.Run.{Run, run}
+use Rattle.runs.specs.Run.{Ended}
+use Rattle.rows_value.specs.Value.{State}
+use Rattle.rows_cycles.specs.Cycle.{Cycle}
+use Rattle.rows_cycles.specs.Run.{running, run}
 
 -- everything that a caller finds after the call, in document 01's numbers
 pub record Report : Type 0 where
@@ -45,10 +48,12 @@ outcomeOf (Ran why steps listed) registers memory list =
 outcomeOf (Unread f n) registers memory list = refused (numberOf f) n registers memory list
 outcomeOf (Refused why) registers memory list = refused (state.numberOf why) (placeOf why) registers memory list
 
--- "The evaluator lists the rows that acted in its last cycle, rising; later places stay"
-abbrev pub finished : Run → List ℕ → Report
-finished r list =
-    outcomeOf (Ran (r .reason) (r .steps) (length (r .acted))) (r .state .registers) (r .state .memory) (r .acted ++ drop (length (r .acted)) list)
+-- what a run comes to, by what RUN is in a state: "The evaluator lists the rows that acted in its last cycle, rising; later places stay"
+abbrev pub finished : (State → ℕ) → Ended Cycle → List ℕ → Report
+finished running r list =
+    let last = r .left in
+    outcomeOf (Ran (reasonOf (running (last .state))) (r .steps) (length (last .acted))) (last .state .registers) (last .state .memory)
+    (last .acted ++ drop (length (last .acted)) list)
 
 -- the widths of a description's registers, in their order
 abbrev pub widthsOf : Description → List ℕ
@@ -63,7 +68,7 @@ unfoldable pub evaluateOf : text.Acceptance → List ℕ → List ℕ → ℕ �
 evaluateOf (turnedDown f n) registers memory budget list = outcomeOf (Unread f n) registers memory list
 evaluateOf (accepted d) registers memory budget list =
     elim (check d registers memory budget list) [
-      | Fit ↦ finished (run d budget (record { registers = registers; memory = memory })) list
+      | Fit ↦ finished (running d) (run d budget (record { registers = registers; memory = memory })) list
       | Unfit why ↦ outcomeOf (Refused why) registers memory list
     ]
 

@@ -18,7 +18,7 @@ ghost use Prim.Native.Nat.{_≤_};
 ghost use lib.ListN.{length};
 ghost use Rattle.state.specs.Limits.{memoryWords};
 ghost use Rattle.text_limits.specs.Limits.{mostRows};
-ghost use Rattle.rows_cycles.specs.Stored.{coursing};
+ghost use Rattle.rows_cycles.specs.Stored.{runAt, coursing};
 ghost use Rattle.evaluator.specs.Evaluate.{report, finished, evaluate as evaluation};
 
 // What came of a call.
@@ -50,7 +50,7 @@ fn run_rows(
 ) -> Answer
     requires { ⌜ count ≤ mostRows ⌝ ∗ ⌜ length (now memory) ≡ memoryWords ⌝ ∗ ⌜ mostRows ≤ length (now rows) ⌝ }
     ensures { λ r. ⌜ report r (now (memory .exit)) (now (rows .exit))
-        ≡ finished (coursing (now (code .entry)) (now (table .entry)) count place budget (record { registers = registers .values; memory = now (memory .entry) }))
+        ≡ finished (runAt place) (coursing (now (code .entry)) (now (table .entry)) count place budget (record { registers = registers .values; memory = now (memory .entry) }))
         (now (rows .entry)) ⌝ }
 {
     let mut plan = [0u16; PLAN_PLACES];

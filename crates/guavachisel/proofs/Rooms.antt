@@ -10,6 +10,7 @@ use borrow.Author.Tests.{eq-eqb, ne-eqb, le-leb, lt-leb}
 use lib.ListN.{length, drop}
 use lib.Seq.{sets, sets-eq}
 use Rattle.word.specs.Choice.{pick}
+use Rattle.shipped_rows.specs.Variant as variant
 use Rattle.shipped_rows.specs.Text.{shippedText}
 use Rattle.guavachisel.specs.Outcome.{places, answered}
 use Rattle.guavachisel.specs.Shipping.{plain, shippedOf, written, Shipped}
@@ -27,11 +28,11 @@ too-long text room h = sym (ap (λ (b : Bool). pick b (text ++ drop (length text
 
 -- the number of a description
 module _ (which : ℕ) (room : List ℕ) where
-  pub described : (text room′ out : List ℕ) (n : ℕ) → which ≡ plain → text ≡ shippedText → length text ≡ n → room′ ≡ written text room → out ≡ places (answered n)
+  pub described : (text room′ out : List ℕ) (n : ℕ) → which ≡ plain → text ≡ shippedText variant.plain → length text ≡ n → room′ ≡ written text room → out ≡ places (answered n)
       → Shipped which room room′ out
   unfolding shippedOf
   described text room′ out n e f l g h =
-      let is = f ∙ sym (ap (λ (b : Bool). pick b shippedText []) (eq-eqb which plain e)) in
+      let is = f ∙ sym (ap (λ (b : Bool). pick b (shippedText variant.plain) []) (eq-eqb which plain e)) in
       record {
         text = g ∙ ap (λ (t : List ℕ). written t room) is;
         outcome = h ∙ sym (ap (λ (k : ℕ). places (answered k)) l) ∙ ap (λ (t : List ℕ). places (answered (length t))) is;
@@ -41,7 +42,7 @@ module _ (which : ℕ) (room : List ℕ) where
   pub undescribed : (out : List ℕ) → (which ≡ plain → ⊥) → out ≡ places (answered 0) → Shipped which room room out
   unfolding shippedOf
   undescribed out e h =
-      let is = sym (ap (λ (b : Bool). pick b shippedText []) (ne-eqb which plain e)) in
+      let is = sym (ap (λ (b : Bool). pick b (shippedText variant.plain) []) (ne-eqb which plain e)) in
       record {
         text = fits [] room (omega arith) ∙ ap (λ (t : List ℕ). written t room) is;
         outcome = h ∙ ap (λ (t : List ℕ). places (answered (length t))) is;

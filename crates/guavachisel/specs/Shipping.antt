@@ -6,6 +6,7 @@ use Prim.Native.Nat.{ℕ}
 use lib.Dec.{eqb, leb}
 use lib.ListN.{length, drop}
 use Rattle.word.specs.Choice.{pick}
+use Rattle.shipped_rows.specs.Variant as variant
 use Rattle.shipped_rows.specs.Text.{shippedText}
 use Rattle.guavachisel.specs.Outcome.{places, answered}
 
@@ -15,7 +16,7 @@ plain = 0
 
 -- the description of a number; no text where it has none
 unfoldable pub shippedOf : ℕ → List ℕ
-shippedOf which = pick (eqb which plain) shippedText []
+shippedOf which = pick (eqb which plain) (shippedText variant.plain) []
 
 -- "to the first bytes of `text`, if it fits into the `room` bytes there; else, and behind it, they stay as they came"
 unfoldable pub written : List ℕ → List ℕ → List ℕ

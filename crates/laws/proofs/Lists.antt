@@ -3,7 +3,7 @@
 use mathlib.Core.Path.{_≡_, refl, sym, ap, _∙_}
 use mathlib.Core.List.{List, [], _∷_, _++_}
 use Prim.Native.Nat.{ℕ, zero, suc, _+_, _<_}
-use native.Mathlib.Nat.{add-zero, add-suc, suc-add, le-of-lt}
+use native.Mathlib.Nat.{zero-add, add-zero, add-suc, suc-add, le-of-lt}
 use native.Mathlib.Numerals.{add-one}
 use native.Mathlib.Omega.{arith}
 use lib.Dec.{ltb}
@@ -24,6 +24,12 @@ present s at b e h =
     by-test (ltb at (length s))
     (λ t. ltb-true at (length s) t)
     (λ t. absurd (omega (arith, List·getD-eq-default s 0 (ltb-false at (length s) t))))
+
+-- a store past the first of two lists
+pub set-append-add : {A : Type 0} (xs ys : List A) (n : ℕ) (a : A) → set (xs ++ ys) (length xs + n) a ≡ xs ++ set ys n a
+set-append-add [] ys n a = ap (λ (k : ℕ). set ys k a) (zero-add n)
+set-append-add {A} (x ∷ xs) ys n a =
+    ap (λ (k : ℕ). set (x ∷ (xs ++ ys)) k a) (suc-add (length xs) n) ∙ ap (λ (l : List A). x ∷ l) (set-append-add xs ys n a)
 
 -- two runs of stores, one behind the other, are one
 pub sets-append : (l : List ℕ) (i : ℕ) (a b : List ℕ) → sets (sets l i a) (i + length a) b ≡ sets l i (a ++ b)

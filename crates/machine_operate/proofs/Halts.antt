@@ -28,10 +28,10 @@ unfolding clearsRun
 first-runs-on i three = ap (λ (x : ℕ). on x && not (on (flag 11 i)) && on (flag 10 i)) three
 
 -- the second group's test, by bit 10
-pub tested-on : (i : ℕ) (s : State) → flag 10 i ≡ 0 → interruptTest s ≡ testedIf (not (on (flag 10 i))) s
+pub tested-on : (i : ℕ) (s : State) → flag 10 i ≡ 0 → interruptTest s ≡ testedIf interruptTest (not (on (flag 10 i))) s
 tested-on i s ten = sym (case-true (not (on (flag 10 i))) (interruptTest s) s (ap (λ (x : ℕ). not (on x)) ten))
 
-pub untested-halt : (i : ℕ) (s : State) → (flag 10 i ≡ 0 → ⊥) → s ≡ testedIf (not (on (flag 10 i))) s
+pub untested-halt : (i : ℕ) (s : State) → (flag 10 i ≡ 0 → ⊥) → s ≡ testedIf interruptTest (not (on (flag 10 i))) s
 untested-halt i s ten = sym (case-false (not (on (flag 10 i))) (interruptTest s) s (ap (λ (t : Bool). not (not t)) (ne-eqb (flag 10 i) 0 ten)))
 
 pub operate-takes : (i : ℕ) (s : State) → takesInterrupt (operate i s) ≡ takesInterrupt s

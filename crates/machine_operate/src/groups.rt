@@ -55,7 +55,7 @@ pub fn first_group(memory: &mut [u16], p: Processor, i: u64) -> Processor
 // Op 7, bit 3 = 1, bit 11 = 0. Few instructions ask for SWITCHES or a halt.
 fn second_group(memory: &mut [u16], p: Processor, i: u64) -> Processor
     requires { ⌜ Good (at p (now memory)) ⌝ }
-    ensures { λ r. ⌜ at r (now (memory .exit)) ≡ testedIf (not (on (flag 10 i))) (group2 i (at p (now (memory .entry)))) ⌝ }
+    ensures { λ r. ⌜ at r (now (memory .exit)) ≡ testedIf interruptTest (not (on (flag 10 i))) (group2 i (at p (now (memory .entry)))) ⌝ }
 {
     let mut q = p;
     q.pc = skip(i, p.lac, p.pc);
@@ -84,7 +84,7 @@ fn third_group(memory: &mut [u16], p: Processor, i: u64) -> Processor
 // Op 7, bit 3 = 1: bit 11 tells the third group from the second.
 pub fn other_groups(memory: &mut [u16], p: Processor, i: u64) -> Processor
     requires { ⌜ Good (at p (now memory)) ⌝ ∗ ⌜ flag 3 i ≡ 1 ⌝ }
-    ensures { λ r. ⌜ at r (now (memory .exit)) ≡ testedIf (not (clearsRun i)) (operate i (at p (now (memory .entry)))) ⌝ }
+    ensures { λ r. ⌜ at r (now (memory .exit)) ≡ testedIf interruptTest (not (clearsRun i)) (operate i (at p (now (memory .entry)))) ⌝ }
 {
     if i / THIRD % 2 != 0 {
         third_group(memory, p, i)

@@ -15,7 +15,7 @@ use Rattle.machine_operate.specs.Operate.{clearsRun, operate}
 use Rattle.machine_operate.proofs.Halts.{operate-takes}
 use Rattle.machine_reference.specs.Reference.{reference}
 use Rattle.machine_run.specs.Base.{baseStep}
-use Rattle.machine_run.specs.Step.{halts, step}
+use Rattle.machine_run.specs.Step.{halts, stepWith, step}
 use Rattle.machine_run.proofs.Tested.{six-not-7, tested-by-op}
 
 -- an interrupt after the halt, where both were 1
@@ -25,7 +25,7 @@ after both s = pick both (interrupted s) s
 -- the tests by which an instruction is executed and tested in both, and what each op leaves
 beside : (six enables seven clears both : Bool) (x y b c : State) → (six ≡ true → seven ≡ false) → takesInterrupt b ≡ both
     → pick six (pick enables x (interruptTest y)) (interruptTest (pick seven b c))
-    ≡ after ((seven && clears) && both) (pick six (testedIf (not enables) (pick enables x y)) (pick seven (testedIf (not clears) b) (interruptTest c)))
+    ≡ after ((seven && clears) && both) (pick six (testedIf interruptTest (not enables) (pick enables x y)) (pick seven (testedIf interruptTest (not clears) b) (interruptTest c)))
 unfolding interruptTest
 beside true enables true clears both x y b c q e = absurd (false≢true (sym (q refl)))
 beside true true false clears both x y b c q e = refl
@@ -35,13 +35,13 @@ beside false enables true false both x y b c q e = refl
 beside false enables false clears both x y b c q e = refl
 
 pub base-step : (s : State) → baseStep s ≡ after (halts (word (s .pc) s) && takesInterrupt s) (step s)
-unfolding baseStep step halts inputOutput
+unfolding baseStep stepWith halts inputOutput
 base-step s =
     let i : ℕ = word (s .pc) s in
     let t : State = withPc (next (s .pc)) s in
     beside (eqb (op i) 6) (eqb i ion) (eqb (op i) 7) (clearsRun i) (takesInterrupt s) (withEnable 1 t) (pick (eqb i iof) (withEnable 0 t) t)
     (operate i t) (reference i (s .pc) t) (six-not-7 i) (operate-takes i t)
-    ∙ ap (after ((eqb (op i) 7 && clearsRun i) && takesInterrupt s)) (sym (tested-by-op i (s .pc) t))
+    ∙ ap (after ((eqb (op i) 7 && clearsRun i) && takesInterrupt s)) (sym (tested-by-op interruptTest i (s .pc) t))
 
 pub as-it-was : (s : State) → (halts (word (s .pc) s) && takesInterrupt s) ≡ false → step s ≡ baseStep s
 as-it-was s e = sym (base-step s ∙ case-false (halts (word (s .pc) s) && takesInterrupt s) _ _ e)

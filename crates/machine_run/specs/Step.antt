@@ -9,7 +9,7 @@ use Rattle.machine_state.specs.State.{State, word, withPc}
 use Rattle.machine_state.specs.Instruction.{op}
 use Rattle.machine_reference.specs.Reference.{reference}
 use Rattle.machine_operate.specs.Operate.{operate, clearsRun}
-use Rattle.machine_state.specs.Interrupt.{testedIf, ion, inputOutput}
+use Rattle.machine_state.specs.Interrupt.{interruptTest, testedIf, ion, inputOutput}
 
 -- the instruction i that was fetched from `last`, by its op
 unfoldable pub execute : ℕ → ℕ → State → State
@@ -23,7 +23,12 @@ halts i = eqb (op i) 7 && clearsRun i
 unfoldable pub makesTest : ℕ → Bool
 makesTest i = not (eqb i ion || halts i)
 
-unfoldable pub step : State → State
-step s =
+-- a step over the interrupt test that it makes
+unfoldable pub stepWith : (State → State) → State → State
+stepWith test s =
     let i : ℕ = word (s .pc) s in
-    testedIf (makesTest i) (execute i (s .pc) (withPc (next (s .pc)) s))
+    testedIf test (makesTest i) (execute i (s .pc) (withPc (next (s .pc)) s))
+
+-- the machine's step: with document 01's test
+abbrev pub step : State → State
+step s = stepWith interruptTest s

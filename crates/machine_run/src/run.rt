@@ -4,9 +4,10 @@ use machine_state::Processor;
 ghost use mathlib.Core.Path.{_≡_};
 ghost use Prim.Native.Nat.{_<_};
 ghost use Rattle.word.specs.Choice.{on, pick};
+ghost use Rattle.runs.specs.Run.{ended};
 ghost use Rattle.machine_state.specs.State.{Good};
 ghost use Rattle.machine_state.specs.Processor.{at};
-ghost use Rattle.machine_run.specs.Run.{ended, run as runOf};
+ghost use Rattle.machine_run.specs.Run.{run as runOf};
 
 // The registers that a run leaves, and its steps.
 pub struct Progress {

@@ -26,7 +26,7 @@ pub run-good : {s : State} {x : ℕ} → x < 2 → Good s → Good (withRun x s)
 run-good h g =
     record { lac = g .lac; pc = g .pc; run = h; enable = g .enable; request = g .request; switches = g .switches; memory = g .memory }
 
-enable-good : {s : State} {x : ℕ} → x < 2 → Good s → Good (withEnable x s)
+pub enable-good : {s : State} {x : ℕ} → x < 2 → Good s → Good (withEnable x s)
 enable-good h g =
     record { lac = g .lac; pc = g .pc; run = g .run; enable = h; request = g .request; switches = g .switches; memory = g .memory }
 
@@ -42,8 +42,9 @@ unfolding interruptTest
 interrupt-good {s} g =
     pick-either Good (takesInterrupt s) (enable-good (lit< tt) (pc-good (lit< tt) (stored-good 0 (g .pc) g))) g
 
-pub tested-good : (made : Bool) {s : State} → Good s → Good (testedIf made s)
-tested-good made g = pick-either Good made (interrupt-good g) g
+-- a test that keeps them, made or not
+pub tested-good : (test : State → State) → ((s : State) → Good s → Good (test s)) → (made : Bool) {s : State} → Good s → Good (testedIf test made s)
+tested-good test kept made {s} g = pick-either Good made (kept s g) g
 
 pub inputOutput-good : (i : ℕ) {s : State} → Good s → Good (inputOutput i s)
 unfolding inputOutput

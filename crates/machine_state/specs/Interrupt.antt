@@ -18,9 +18,9 @@ interrupted s = withEnable 0 (withPc 1 (stored 0 (s .pc) s))
 unfoldable pub interruptTest : State → State
 interruptTest s = pick (takesInterrupt s) (interrupted s) s
 
--- the interrupt test, where one is made
-abbrev pub testedIf : Bool → State → State
-testedIf made s = pick made (interruptTest s) s
+-- a test, where one is made
+abbrev pub testedIf : (State → State) → Bool → State → State
+testedIf test made s = pick made (test s) s
 
 -- "word 6001 sets INTERRUPT.ENABLE"
 abbrev pub ion : ℕ

@@ -33,7 +33,7 @@ pub fn interrupt_test(memory: &mut [u16], p: Processor) -> Processor
 // Op 6, and the step's interrupt test, which 6001 omits.
 pub fn input_output(memory: &mut [u16], p: Processor, i: u64) -> Processor
     requires { ⌜ 0 < length (now memory) ⌝ ∗ ⌜ p .pc < 2 ^ wordBits ⌝ ∗ ⌜ p .enable < 2 ⌝ ∗ ⌜ p .request < 2 ⌝ }
-    ensures { λ r. ⌜ at r (now (memory .exit)) ≡ testedIf (not (eqb i ion)) (inputOutput i (at p (now (memory .entry)))) ⌝ }
+    ensures { λ r. ⌜ at r (now (memory .exit)) ≡ testedIf interruptTest (not (eqb i ion)) (inputOutput i (at p (now (memory .entry)))) ⌝ }
 {
     if i == ION {
         let mut q = p;

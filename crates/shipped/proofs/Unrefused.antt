@@ -12,12 +12,13 @@ use Rattle.state.specs.declared.Verdict.the-variants.{Fit, Unfit}
 use Rattle.state.proofs.Accepted.{row-list-long, both-fit, state-sound}
 use Rattle.state.proofs.Numbers.{numbered}
 use Rattle.machine_state.specs.declared.Machine.{Machine}
-use Rattle.machine_state.specs.Registers.{values}
 use Rattle.emulator.specs.Emulate as emulator
 use Rattle.emulator.specs.Emulate.{emulate}
 use Rattle.text_limits.specs.Limits.{mostRegisters}
 use Rattle.text_description.specs.Description as text
 use Rattle.evaluator.specs.Evaluate.{Report, refused, finished, widthsOf, check, evaluateOf, evaluate}
+use Rattle.rows_cycles.specs.Run.{running}
+use Rattle.shipped_rows.specs.Variant.{Variant, valuesOf}
 use Rattle.shipped_rows.specs.Text.{shippedText}
 use Rattle.shipped_rows.specs.Shipped.{shipped}
 use Rattle.shipped.specs.Claim.{machinePart, Start, Same, cyclesOf, Claim, Together}
@@ -33,13 +34,13 @@ passes : (v : Verdict) (ran : Report) (registers memory list : List ℕ)
 passes Fit ran registers memory list e = refl
 passes (Unfit why) ran registers memory list e = absurd (numbered why e)
 
-module _ (m : Machine) (registers memory : List ℕ) (budget : ℕ) (list : List ℕ) where
+module _ (v : Variant) (m : Machine) (registers memory : List ℕ) (budget : ℕ) (list : List ℕ) where
   -- what passes the evaluator's checks is a start
-  start-of : length registers ≡ mostRegisters → machinePart registers ≡ values m → check shipped registers memory budget list ≡ Fit
-      → Start m registers memory budget list
+  start-of : length registers ≡ mostRegisters → machinePart v registers ≡ valuesOf v m → check (shipped v) registers memory budget list ≡ Fit
+      → Start v m registers memory budget list
   start-of places machine e =
-      let outer = both-fit (checkState (widthsOf shipped) registers memory budget) (checkRowList (length list)) e in
-      let sound = state-sound (widthsOf shipped) registers memory budget (outer .0) in
+      let outer = both-fit (checkState (widthsOf (shipped v)) registers memory budget) (checkRowList (length list)) e in
+      let sound = state-sound (widthsOf (shipped v)) registers memory budget (outer .0) in
       record {
         places = places;
         machine = machine;
@@ -49,33 +50,33 @@ module _ (m : Machine) (registers memory : List ℕ) (budget : ℕ) (list : List
         roomy = row-list-long (length list) (outer .1);
       }
 
-  unrefused : evaluate shippedText registers memory budget list .number ≡ 0 → check shipped registers memory budget list ≡ Fit
+  unrefused : evaluate (shippedText v) registers memory budget list .number ≡ 0 → check (shipped v) registers memory budget list ≡ Fit
   unfolding evaluate evaluateOf
   unrefused e =
-      passes (check shipped registers memory budget list) (finished (cyclesOf registers memory budget) list) registers memory list
-      (ap (λ (a : text.Acceptance). number (evaluateOf a registers memory budget list)) (sym shipped-read) ∙ e)
+      passes (check (shipped v) registers memory budget list) (finished (running (shipped v)) (cyclesOf v registers memory budget) list) registers memory list
+      (ap (λ (a : text.Acceptance). number (evaluateOf a registers memory budget list)) (sym (shipped-read v)) ∙ e)
 
   -- what the emulator refuses, the evaluator refuses too: so this is wherever neither refuses
-  pub unrefused-agree : length registers ≡ mostRegisters → machinePart registers ≡ values m
-      → evaluate shippedText registers memory budget list .number ≡ 0 → Claim m registers memory budget list
-  unrefused-agree places machine e = runs-agree m registers memory budget list (start-of places machine (unrefused e))
+  pub unrefused-agree : length registers ≡ mostRegisters → machinePart v registers ≡ valuesOf v m
+      → evaluate (shippedText v) registers memory budget list .number ≡ 0 → Claim v m registers memory budget list
+  unrefused-agree places machine e = runs-agree v m registers memory budget list (start-of places machine (unrefused e))
 
   -- the same of two answers that are what the definitions give, as the entries' contracts say of theirs
-  answers-agree : length registers ≡ mostRegisters → machinePart registers ≡ values m
-      → (a : emulator.Report) (b : Report) → a ≡ emulate m memory budget → b ≡ evaluate shippedText registers memory budget list
-      → b .number ≡ 0 → Same a b
+  answers-agree : length registers ≡ mostRegisters → machinePart v registers ≡ valuesOf v m
+      → (a : emulator.Report) (b : Report) → a ≡ emulate m memory budget → b ≡ evaluate (shippedText v) registers memory budget list
+      → b .number ≡ 0 → Same v a b
   answers-agree places machine a b p q e =
-      subst (λ (x : emulator.Report). Same x b) (sym p)
-      (subst (λ (y : Report). Same (emulate m memory budget) y) (sym q) (unrefused-agree places machine (ap number (sym q) ∙ e) .same))
+      subst (λ (x : emulator.Report). Same v x b) (sym p)
+      (subst (λ (y : Report). Same v (emulate m memory budget) y) (sym q) (unrefused-agree places machine (ap number (sym q) ∙ e) .same))
 
 -- and of answers that two memories gave, wherever these hold the same words
-pub together : (m : Machine) (registers first second : List ℕ) (budget : ℕ) (list : List ℕ) (a : emulator.Report) (b : Report)
-    → length registers ≡ mostRegisters → a ≡ emulate m first budget → b ≡ evaluate shippedText registers second budget list
-    → Together m registers first second budget list a b
-together m registers first second budget list a b places p q =
+pub together : (v : Variant) (m : Machine) (registers first second : List ℕ) (budget : ℕ) (list : List ℕ) (a : emulator.Report) (b : Report)
+    → length registers ≡ mostRegisters → a ≡ emulate m first budget → b ≡ evaluate (shippedText v) registers second budget list
+    → Together v m registers first second budget list a b
+together v m registers first second budget list a b places p q =
     record {
       emulated = p;
       evaluated = q;
       agree = λ same machine none.
-          answers-agree m registers first budget list places machine a b p (q ∙ ap (λ (l : List ℕ). evaluate shippedText registers l budget list) same) none;
+          answers-agree v m registers first budget list places machine a b p (q ∙ ap (λ (l : List ℕ). evaluate (shippedText v) registers l budget list) same) none;
     }

@@ -4,6 +4,7 @@ use rows_store::Registers;
 ghost use mathlib.Core.Path.{_≡_};
 ghost use Rattle.evaluator.specs.Evaluate.{report, evaluate};
 ghost use Rattle.emulator.specs.Emulate as emulation;
+ghost use Rattle.shipped_rows.specs.Variant.{plain};
 ghost use Rattle.shipped_rows.specs.Text.{shippedText};
 ghost use Rattle.shipped.specs.Claim.{Together};
 
@@ -20,7 +21,7 @@ fn evaluate_shipped(
     budget: u64,
     rows: &mut [u8],
 ) -> evaluator::Answer
-    ensures { λ r. ⌜ report r (now (memory .exit)) (now (rows .exit)) ≡ evaluate shippedText (registers .values) (now (memory .entry)) budget (now (rows .entry)) ⌝ }
+    ensures { λ r. ⌜ report r (now (memory .exit)) (now (rows .exit)) ≡ evaluate (shippedText plain) (registers .values) (now (memory .entry)) budget (now (rows .entry)) ⌝ }
 {
     let text = shipped_rows::shipped_text();
     evaluator::evaluate(&text, memory, registers, budget, rows)
@@ -35,7 +36,7 @@ pub fn run_both(
     budget: u64,
     rows: &mut [u8],
 ) -> Both
-    ensures { λ r. ⌜ Together m (registers .values) (now (first .entry)) (now (second .entry)) budget (now (rows .entry))
+    ensures { λ r. ⌜ Together plain m (registers .values) (now (first .entry)) (now (second .entry)) budget (now (rows .entry))
         (emulation.report m (r .emulated) (now (first .exit))) (report (r .evaluated) (now (second .exit)) (now (rows .exit))) ⌝ }
 {
     let emulated = emulator::emulate(first, m, budget);

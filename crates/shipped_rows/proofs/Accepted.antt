@@ -1,4 +1,4 @@
--- The reader accepts the shipped text, and the tree is what it reads: the definition of reading, computed. So the shipped description is the tree, and its rows are within their limit.
+-- The reader accepts each shipped text, and its tree is what it reads: the definition of reading, computed. So a shipped description is its tree, and its rows are within their limit.
 -- Assumes nothing.
 use mathlib.Core.Path.{_≡_, refl, sym, ap, _∙_, subst}
 use Prim.Native.Nat.{_≤_}
@@ -19,25 +19,29 @@ use Rattle.text_declaration.specs.Rows.{Description, piecesOf}
 use Rattle.text_declaration.specs.Lines.{addRegister, regLine, addLabel, atLine}
 use Rattle.text_targets.specs.Targets.{passes, firstMissing}
 use Rattle.text_rows.specs.Lines.{addRow, addDo, doLine, addGo, goLine}
+use Rattle.shipped_rows.specs.Variant.{Variant, plain}
 use Rattle.shipped_rows.specs.Text.{shippedText}
 use Rattle.shipped_rows.specs.Shipped.{described, shipped, mostShippedRows}
 use Rattle.shipped_rows.proofs.Tree.{tree}
 use Rattle.text_description.specs.Description.{accepted, finished, readLines, readBelow, readAll, readText}
 use Rattle.text_description.specs.Line.{byWord, readLine}
 
-pub shipped-accepted : readText shippedText ≡ accepted tree
+pub shipped-accepted : (v : Variant) → readText (shippedText v) ≡ accepted (tree v)
 unfolding run runEnd same numberAt decimalAt markedAt shortestFrom ofDecimal constantAt lines field hasFields isName find findIn operatorRow tokenEnd
     operatorAt secondBit firstBit spanAt partOf registerAt referenceAt limited ofReference ofConstant notOf closed rotationOf joined level whole
     expression ofName ofAddress memoryAt destination addRegister regLine piecesOf addRow addDo doLine passes addGo goLine addLabel atLine byWord readLine firstMissing
     finished readLines readBelow readAll readText shippedText
-shipped-accepted = refl
+shipped-accepted plain = refl
 
-pub shipped-is : shipped ≡ tree
+pub shipped-is : (v : Variant) → shipped v ≡ tree v
 unfolding shipped
-shipped-is = ap described shipped-accepted
+shipped-is v = ap described (shipped-accepted v)
 
-pub shipped-read : readText shippedText ≡ accepted shipped
-shipped-read = shipped-accepted ∙ ap accepted (sym shipped-is)
+pub shipped-read : (v : Variant) → readText (shippedText v) ≡ accepted (shipped v)
+shipped-read v = shipped-accepted v ∙ ap accepted (sym (shipped-is v))
 
-pub shipped-short : length (shipped .rows) ≤ mostShippedRows
-shipped-short = subst (λ (d : Description). length (d .rows) ≤ mostShippedRows) (sym shipped-is) (lit≤ tt)
+tree-short : (v : Variant) → length (tree v .rows) ≤ mostShippedRows
+tree-short plain = lit≤ tt
+
+pub shipped-short : (v : Variant) → length (shipped v .rows) ≤ mostShippedRows
+shipped-short v = subst (λ (d : Description). length (d .rows) ≤ mostShippedRows) (sym (shipped-is v)) (tree-short v)

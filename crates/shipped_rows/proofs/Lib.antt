@@ -1,8 +1,10 @@
 pub mod Tree
 pub mod Accepted
 pub mod Places
-mod Plain
+mod Unnoted
+mod Labels
 mod Ends
+mod Working
 mod Bits
 mod Interrupts
 mod References

@@ -1,34 +1,33 @@
 -- The rows of op 7: its first and third group, and which group it is.
 -- Assumes nothing.
-use mathlib.Core.Path.{_≡_, refl, sym, ap, subst}
+use mathlib.Core.Path.{_≡_, refl, ap}
 use mathlib.Core.Bool.{Bool, true, not, _&&_}
-use mathlib.Core.List.{List, _∷_}
+use mathlib.Core.List.{List}
 use Prim.Native.Nat.{ℕ, _+_, _%_, _^_, _<_}
 use native.Mathlib.Nat.{mod-eq-of-lt}
 use lib.Dec.{lit<}
-use lib.ListN.{drop}
 use Rattle.word.specs.Choice.{on, pick}
 use Rattle.word.specs.Word.{wordBits, complement, rotatedLeft, rotatedRight}
 use Rattle.word.proofs.Choice.{pick-either}
 use Rattle.word.proofs.Rotation.{rotatedLeft-lt, rotatedRight-lt}
 use Rattle.machine_state.specs.State.{State, Good, lacBits, withLac, link, ac, withLink, withAc}
 use Rattle.machine_state.specs.Instruction.{flag}
-use Rattle.machine_state.specs.Interrupt.{interruptTest, testedIf}
-use Rattle.text_operators.specs.declared.Operator.the-variants.{RotateLeft, RotateRight}
-use Rattle.text_code.specs.Tree.{rotated}
-use Rattle.text_declaration.specs.Rows.{Row, does, goes}
+use Rattle.machine_state.specs.Interrupt.{testedIf}
+use Rattle.machine_state.proofs.Keeps.{lac-good}
+use Rattle.text_declaration.specs.Rows.{Row}
 use Rattle.rows_value.specs.Value as rows
 use Rattle.machine_operate.specs.Operate as machine
 use Rattle.machine_operate.specs.Operate.{cleared, linkCleared, complemented, linkComplemented, increased, changed, group1, group2, group3, clearsRun, operate}
-use Rattle.machine_operate.proofs.Changes.{changed-lt}
-use Rattle.shipped_rows.proofs.Tree as tree
-use Rattle.shipped_rows.proofs.Tree.{rows·opr, rows·twice, rows·group2, rows·group3, rows·interrupt}
+use Rattle.machine_operate.proofs.Changes.{cleared-lt, changed-lt}
+use Rattle.shipped_rows.specs.Variant.{Variant}
+use Rattle.shipped_rows.proofs.Tree.{rows·opr, rows·group1, rows·twice, rotates, rows·group2, rows·group3, rows·interrupt}
+use Rattle.shipped_rows.proofs.Labels.{Below, here, under, through, interrupt-group2, interrupt-twice, group2-twice, group3-inverted}
 use Rattle.shipped_rows.proofs.Places.{Work, Fit, inPlaces}
-use Rattle.shipped_rows.proofs.Ends.{Ends, moved, jumps, decides}
-use Rattle.shipped_rows.proofs.Interrupts.{ends-interrupt}
-use Rattle.shipped_rows.proofs.Skips.{ends-group2}
+use Rattle.shipped_rows.proofs.Ends.{Ends, moved, jumps, decides, Tested}
+use Rattle.shipped_rows.proofs.Working.{i-bit}
+use Rattle.shipped_rows.proofs.Skips.{ends-second}
 
-module _ {o : State} {w : Work} (g : Good o) (f : Fit w) where
+module _ (v : Variant) {test : State → State} (tested : Tested v test) {o : State} {w : Work} (g : Good o) (f : Fit w) where
   abbrev i : ℕ
   i = w .i
 
@@ -57,52 +56,49 @@ module _ {o : State} {w : Work} (g : Good o) (f : Fit w) where
 
   -- a state with another LAC
   abbrev lac-is : ℕ → rows.State
-  lac-is x = inPlaces (withLac x o) w
+  lac-is x = inPlaces v (withLac x o) w
 
-  ends-lac : (x : ℕ) → Ends rows·interrupt (lac-is x) (interruptTest (withLac x o))
-  ends-lac x = ends-interrupt f (g .pc) (g .enable) (g .request)
+  ends-lac : (x : ℕ) → x < 2 ^ lacBits → Ends v (rows·interrupt v) (lac-is x) (test (withLac x o))
+  ends-lac x h = tested .ends (withLac x o) w (lac-good h g) f
 
-  ends-group3 : Ends rows·group3 (inPlaces o w) (interruptTest (group3 i o))
+  ends-group3 : Ends v (rows·group3 v) (inPlaces v o w) (test (group3 i o))
   unfolding group3
-  ends-group3 = moved lac-is (o .lac) (withAc (o .lac) 0) (on (flag 4 i)) refl refl (ends-lac (cleared i (o .lac)))
+  ends-group3 = moved lac-is (o .lac) (withAc (o .lac) 0) (on (flag 4 i)) (i-bit v o w 4) refl (ends-lac (cleared i (o .lac)) (cleared-lt i (g .lac)))
 
   leftBy-lt : (n : ℕ) {x : ℕ} → x < 2 ^ lacBits → leftBy n x < 2 ^ lacBits
   leftBy-lt n h = pick-either (λ (z : ℕ). z < 2 ^ lacBits) (on (flag 9 i)) (rotatedLeft-lt lacBits (lit< tt) n h) h
 
-  -- two rows rotate by n places, and the third goes to the interrupt test
-  rotates : (n : ℕ) (m : ℕ) (rs : List Row) (x : ℕ) → x < 2 ^ lacBits → drop m rs ≡ rows·interrupt
-      → Ends
-      (does (tree.iBit 9) tree.toLac (rotated RotateLeft tree.lac n)
-      ∷ does (tree.iBit 8) tree.toLac (rotated RotateRight tree.lac n)
-      ∷ goes tree.one m
-      ∷ rs)
-      (lac-is x)
-      (interruptTest (withLac (rotatedBy n x) o))
-  rotates n m rs x h land =
-      moved lac-is x (rotatedLeft lacBits n x) (on (flag 9 i)) refl (ap lac-is (mod-eq-of-lt (rotatedLeft-lt lacBits (lit< tt) n h)))
-      (moved lac-is (leftBy n x) (rotatedRight lacBits n (leftBy n x)) (on (flag 8 i)) refl (ap lac-is (mod-eq-of-lt (rotatedRight-lt lacBits (lit< tt) n (leftBy-lt n h))))
-      (jumps refl (subst (λ (l : List Row). Ends l (lac-is (rotatedBy n x)) (interruptTest (withLac (rotatedBy n x) o))) (sym land) (ends-lac (rotatedBy n x)))))
+  rotatedBy-lt : (n : ℕ) {x : ℕ} → x < 2 ^ lacBits → rotatedBy n x < 2 ^ lacBits
+  rotatedBy-lt n h = pick-either (λ (z : ℕ). z < 2 ^ lacBits) (on (flag 8 i)) (rotatedRight-lt lacBits (lit< tt) n (leftBy-lt n h)) (leftBy-lt n h)
 
-  ends-group1 : Ends (drop 1 rows·opr) (inPlaces o w) (interruptTest (group1 i o))
+  -- two rows rotate by n places, and the third goes to the interrupt test
+  ends-rotates : (n : ℕ) {rs : List Row} → Below (rows·interrupt v) rs → (x : ℕ) → x < 2 ^ lacBits → Ends v (rotates v n rs) (lac-is x) (test (withLac (rotatedBy n x) o))
+  ends-rotates n below x h =
+      moved lac-is x (rotatedLeft lacBits n x) (on (flag 9 i)) (i-bit v (withLac x o) w 9) (ap lac-is (mod-eq-of-lt (rotatedLeft-lt lacBits (lit< tt) n h)))
+      (moved lac-is (leftBy n x) (rotatedRight lacBits n (leftBy n x)) (on (flag 8 i)) (i-bit v (withLac (leftBy n x) o) w 8)
+      (ap lac-is (mod-eq-of-lt (rotatedRight-lt lacBits (lit< tt) n (leftBy-lt n h))))
+      (jumps below refl (ends-lac (rotatedBy n x) (rotatedBy-lt n h))))
+
+  ends-group1 : Ends v (rows·group1 v) (inPlaces v o w) (test (group1 i o))
   unfolding group1 changed machine.rotated
   ends-group1 =
-      moved lac-is (o .lac) (withAc (o .lac) 0) (on (flag 4 i)) refl refl
-      (moved lac-is lac₁ (withLink lac₁ 0) (on (flag 5 i)) refl refl
-      (moved lac-is lac₂ (withAc lac₂ (complement wordBits (ac lac₂))) (on (flag 6 i)) refl refl
-      (moved lac-is lac₃ (withLink lac₃ (complement 1 (link lac₃))) (on (flag 7 i)) refl refl
-      (moved lac-is lac₄ ((lac₄ + 1) % 2 ^ lacBits) (on (flag 11 i)) refl refl
-      (decides (λ (t : Bool). interruptTest (withLac (rotatedBy (pick t 2 1) lac₅) o)) (on (flag 10 i)) refl
-      (rotates 2 18 rows·group2 lac₅ (changed-lt i (g .lac)) refl)
-      (rotates 1 21 rows·twice lac₅ (changed-lt i (g .lac)) refl))))))
+      moved lac-is (o .lac) (withAc (o .lac) 0) (on (flag 4 i)) (i-bit v o w 4) refl
+      (moved lac-is lac₁ (withLink lac₁ 0) (on (flag 5 i)) (i-bit v (withLac lac₁ o) w 5) refl
+      (moved lac-is lac₂ (withAc lac₂ (complement wordBits (ac lac₂))) (on (flag 6 i)) (i-bit v (withLac lac₂ o) w 6) refl
+      (moved lac-is lac₃ (withLink lac₃ (complement 1 (link lac₃))) (on (flag 7 i)) (i-bit v (withLac lac₃ o) w 7) refl
+      (moved lac-is lac₄ ((lac₄ + 1) % 2 ^ lacBits) (on (flag 11 i)) (i-bit v (withLac lac₄ o) w 11) refl
+      (decides (under (under (under here))) (λ (t : Bool). test (withLac (rotatedBy (pick t 2 1) lac₅) o)) (on (flag 10 i)) (i-bit v (withLac lac₅ o) w 10)
+      (ends-rotates 2 (interrupt-group2 v) lac₅ (changed-lt i (g .lac)))
+      (ends-rotates 1 (interrupt-twice v) lac₅ (changed-lt i (g .lac))))))))
 
   -- the groups by bits 3 and 11, which tell what bit 10 means, too
-  abbrev tested : Bool → Bool → State
-  tested three eleven =
-      testedIf (not (three && not eleven && on (flag 10 i))) (pick three (pick eleven (group3 i o) (group2 i o)) (group1 i o))
+  abbrev ended : Bool → Bool → State
+  ended three eleven =
+      testedIf test (not (three && not eleven && on (flag 10 i))) (pick three (pick eleven (group3 i o) (group2 i o)) (group1 i o))
 
-  pub ends-opr : Ends rows·opr (inPlaces o w) (testedIf (not (clearsRun i)) (operate i o))
+  pub ends-opr : Ends v (rows·opr v) (inPlaces v o w) (testedIf test (not (clearsRun i)) (operate i o))
   unfolding operate clearsRun
   ends-opr =
-      decides (λ (t : Bool). tested t (on (flag 11 i))) (on (flag 3 i)) refl
-      (decides (tested true) (on (flag 11 i)) refl ends-group3 (ends-group2 g f))
+      decides (under (under (under (under (under (under (under (under (under (group2-twice v)))))))))) (λ (t : Bool). ended t (on (flag 11 i))) (on (flag 3 i)) (i-bit v o w 3)
+      (decides (under (under (under (under (under (under (group3-inverted v))))))) (ended true) (on (flag 11 i)) (i-bit v o w 11) ends-group3 (ends-second v tested g f))
       ends-group1

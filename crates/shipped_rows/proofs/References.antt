@@ -5,78 +5,83 @@ use Prim.Native.Nat.{ℕ, _+_, _%_, _^_, _<_}
 use native.Mathlib.Nat.{mod-eq-of-lt}
 use lib.Bits.{bitAnd}
 use lib.Dec.{eqb}
-use lib.ListN.{getD, set}
+use lib.ListN.{getD}
 use lib.Seq.{getD-set-same}
 use Rattle.word.specs.Word.{wordBits, next}
 use Rattle.word.proofs.Choice.{pick-either, on-bit}
 use Rattle.word.proofs.Next.{next-lt}
 use Rattle.machine_state.specs.State.{State, Good, lacBits, word, stored, withLac, withPc, ac, withAc}
 use Rattle.machine_state.specs.Instruction.{op}
-use Rattle.machine_state.specs.Interrupt.{interruptTest}
-use Rattle.machine_state.proofs.Lac.{ac-lt}
+use Rattle.machine_state.proofs.Lac.{ac-lt, withAc-lt, wrapped-lt}
+use Rattle.machine_state.proofs.Keeps.{lac-good, pc-good, stored-good}
 use Rattle.machine_reference.specs.Reference.{andTo, addTo, incrementAndSkip, deposit, callAt, jumpTo, operation}
 use Rattle.machine_reference.proofs.Ops.{by-op}
-use Rattle.shipped_rows.proofs.Tree.{rows·execute, rows·jmp, rows·and, rows·tad, rows·isz, rows·dca, rows·jms}
-use Rattle.shipped_rows.proofs.Places.{Work, Fit, inPlaces}
-use Rattle.shipped_rows.proofs.Ends.{Ends, acts, moved, jumps, branches}
-use Rattle.shipped_rows.proofs.Interrupts.{ends-interrupt}
+use Rattle.text_code.specs.Tree.{memory}
+use Rattle.rows_value.specs.Value.{value}
+use Rattle.shipped_rows.specs.Variant.{Variant}
+use Rattle.shipped_rows.proofs.Tree.{eadd, rows·execute, rows·jmp, rows·and, rows·tad, rows·isz, rows·dca, rows·jms}
+use Rattle.shipped_rows.proofs.Labels.{under, interrupt-and, interrupt-tad, interrupt-isz, interrupt-dca, interrupt-jms, interrupt-iot, and-jmp, tad-jmp, isz-jmp, dca-jmp, jms-jmp}
+use Rattle.shipped_rows.proofs.Places.{Work, Fit, inPlaces, work-read}
+use Rattle.shipped_rows.proofs.Ends.{Ends, acts, moved, jumps, branches, Tested}
+use Rattle.shipped_rows.proofs.Working.{op-is, at-eadd}
 
-module _ {o : State} {w : Work} (g : Good o) (f : Fit w) where
-  -- "A memory address is taken modulo 4,096": eadd is one
-  at-eadd : w .eadd % 2 ^ wordBits ≡ w .eadd
-  at-eadd = mod-eq-of-lt (f .eadd)
+module _ (v : Variant) {test : State → State} (tested : Tested v test) {o : State} {w : Work} (g : Good o) (f : Fit w) where
+  abbrev e : ℕ
+  e = w .eadd
 
-  ends-jmp : Ends rows·jmp (inPlaces o w) (interruptTest (jumpTo (w .eadd) o))
+  ends-jmp : Ends v (rows·jmp v) (inPlaces v o w) (test (jumpTo e o))
   ends-jmp =
-      acts (inPlaces (withPc (w .eadd) o) w) refl (ap (λ (x : ℕ). inPlaces (withPc x o) w) at-eadd)
-      (jumps refl (ends-interrupt f (f .eadd) (g .enable) (g .request)))
+      acts (inPlaces v (jumpTo e o) w) refl (ap (λ (x : ℕ). inPlaces v (withPc x o) w) (at-eadd v o w (f .eadd)))
+      (jumps (interrupt-and v) refl (tested .ends (jumpTo e o) w (pc-good (f .eadd) g) f))
 
-  ends-and : Ends rows·and (inPlaces o w) (interruptTest (andTo (w .eadd) o))
+  ends-and : Ends v (rows·and v) (inPlaces v o w) (test (andTo e o))
   ends-and =
-      acts (inPlaces (andTo (w .eadd) o) w) refl
-      (ap (λ (a : ℕ). inPlaces (withLac (withAc (o .lac) (bitAnd (ac (o .lac)) (word a o))) o) w) at-eadd)
-      (jumps refl (ends-interrupt f (g .pc) (g .enable) (g .request)))
+      acts (inPlaces v (andTo e o) w) refl
+      (ap (λ (a : ℕ). inPlaces v (withLac (withAc (o .lac) (bitAnd (ac (o .lac)) (word a o))) o) w) (at-eadd v o w (f .eadd)))
+      (jumps (interrupt-tad v) refl (tested .ends (andTo e o) w (lac-good (withAc-lt (bitAnd (ac (o .lac)) (word e o)) (g .lac)) g) f))
 
-  ends-tad : Ends rows·tad (inPlaces o w) (interruptTest (addTo (w .eadd) o))
+  ends-tad : Ends v (rows·tad v) (inPlaces v o w) (test (addTo e o))
   ends-tad =
-      acts (inPlaces (addTo (w .eadd) o) w) refl (ap (λ (a : ℕ). inPlaces (withLac ((o .lac + word a o) % 2 ^ lacBits) o) w) at-eadd)
-      (jumps refl (ends-interrupt f (g .pc) (g .enable) (g .request)))
+      acts (inPlaces v (addTo e o) w) refl (ap (λ (a : ℕ). inPlaces v (withLac ((o .lac + word a o) % 2 ^ lacBits) o) w) (at-eadd v o w (f .eadd)))
+      (jumps (interrupt-isz v) refl (tested .ends (addTo e o) w (lac-good (wrapped-lt (o .lac + word e o)) g) f))
 
-  ends-dca : Ends rows·dca (inPlaces o w) (interruptTest (deposit (w .eadd) o))
+  ends-dca : Ends v (rows·dca v) (inPlaces v o w) (test (deposit e o))
   ends-dca =
-      acts (inPlaces (stored (w .eadd) (ac (o .lac)) o) w) refl
-      (ap₂ (λ (a x : ℕ). inPlaces (stored a x o) w) at-eadd (mod-eq-of-lt (ac-lt (o .lac))))
-      (acts (inPlaces (deposit (w .eadd) o) w) refl refl
-      (jumps refl (ends-interrupt f (g .pc) (g .enable) (g .request))))
+      acts (inPlaces v (stored e (ac (o .lac)) o) w) refl
+      (ap₂ (λ (a x : ℕ). inPlaces v (stored a x o) w) (at-eadd v o w (f .eadd)) (mod-eq-of-lt (ac-lt (o .lac))))
+      (acts (inPlaces v (deposit e o) w) refl refl
+      (jumps (interrupt-jms v) refl (tested .ends (deposit e o) w (lac-good (withAc-lt 0 (g .lac)) (stored-good e (ac-lt (o .lac)) g)) f)))
 
-  ends-jms : Ends rows·jms (inPlaces o w) (interruptTest (callAt (w .eadd) o))
+  ends-jms : Ends v (rows·jms v) (inPlaces v o w) (test (callAt e o))
   ends-jms =
-      acts (inPlaces (stored (w .eadd) (o .pc) o) w) refl (ap₂ (λ (a x : ℕ). inPlaces (stored a x o) w) at-eadd (mod-eq-of-lt (g .pc)))
-      (acts (inPlaces (callAt (w .eadd) o) w) refl refl
-      (jumps refl (ends-interrupt f (next-lt (w .eadd)) (g .enable) (g .request))))
+      let s : State = stored e (o .pc) o in
+      acts (inPlaces v s w) refl (ap₂ (λ (a x : ℕ). inPlaces v (stored a x o) w) (at-eadd v o w (f .eadd)) (mod-eq-of-lt (g .pc)))
+      (acts (inPlaces v (callAt e o) w) refl (ap (λ (x : ℕ). inPlaces v (withPc (next x) s) w) (work-read v s w 2))
+      (jumps (interrupt-iot v) refl (tested .ends (callAt e o) w (pc-good (next-lt e) (stored-good e (g .pc) g)) f)))
 
   -- the word that op 2 leaves
   abbrev increased : ℕ
-  increased = next (word (w .eadd) o)
+  increased = next (word e o)
 
-  read-back : getD (set (o .memory) (w .eadd) increased) (w .eadd % 2 ^ wordBits) 0 ≡ increased
+  read-back : value (inPlaces v (stored e increased o) w) (memory (eadd v)) ≡ increased
   read-back =
-      ap (λ (a : ℕ). getD (set (o .memory) (w .eadd) increased) a 0) at-eadd
-      ∙ getD-set-same (o .memory) (w .eadd) increased 0 (subst (λ (n : ℕ). w .eadd < n) (sym (g .memory .size)) (f .eadd))
+      ap (λ (a : ℕ). getD (stored e increased o .memory) a 0) (at-eadd v (stored e increased o) w (f .eadd))
+      ∙ getD-set-same (o .memory) e increased 0 (subst (λ (n : ℕ). e < n) (sym (g .memory .size)) (f .eadd))
 
-  ends-isz : Ends rows·isz (inPlaces o w) (interruptTest (incrementAndSkip (w .eadd) o))
+  ends-isz : Ends v (rows·isz v) (inPlaces v o w) (test (incrementAndSkip e o))
   ends-isz =
-      acts (inPlaces (stored (w .eadd) increased o) w) refl (ap (λ (a : ℕ). inPlaces (stored a (next (word a o)) o) w) at-eadd)
-      (moved (λ (n : ℕ). inPlaces (withPc n (stored (w .eadd) increased o)) w) (o .pc) (next (o .pc)) (eqb increased 0)
-      (on-bit (eqb (getD (set (o .memory) (w .eadd) increased) (w .eadd % 2 ^ wordBits) 0) 0) ∙ ap (λ (v : ℕ). eqb v 0) read-back) refl
-      (jumps refl
-      (ends-interrupt f (pick-either (λ (n : ℕ). n < 2 ^ wordBits) (eqb increased 0) (next-lt (o .pc)) (g .pc)) (g .enable) (g .request))))
+      acts (inPlaces v (stored e increased o) w) refl (ap (λ (a : ℕ). inPlaces v (stored a (next (word a o)) o) w) (at-eadd v o w (f .eadd)))
+      (moved (λ (n : ℕ). inPlaces v (withPc n (stored e increased o)) w) (o .pc) (next (o .pc)) (eqb increased 0)
+      (on-bit _ ∙ ap (λ (x : ℕ). eqb x 0) read-back) refl
+      (jumps (interrupt-dca v) refl
+      (tested .ends (incrementAndSkip e o) w
+      (pc-good (pick-either (λ (n : ℕ). n < 2 ^ wordBits) (eqb increased 0) (next-lt (o .pc)) (g .pc)) (stored-good e (next-lt (word e o)) g)) f)))
 
-  pub ends-execute : Ends rows·execute (inPlaces o w) (interruptTest (operation (op (w .i)) (w .eadd) o))
+  pub ends-execute : Ends v (rows·execute v) (inPlaces v o w) (test (operation (op (w .i)) e o))
   ends-execute =
-      subst (λ (s : State). Ends rows·execute (inPlaces o w) (interruptTest s)) (sym (by-op (op (w .i)) (w .eadd) o))
-      (branches interruptTest (eqb (op (w .i)) 0) (on-bit (eqb (op (w .i)) 0)) ends-and
-      (branches interruptTest (eqb (op (w .i)) 1) (on-bit (eqb (op (w .i)) 1)) ends-tad
-      (branches interruptTest (eqb (op (w .i)) 2) (on-bit (eqb (op (w .i)) 2)) ends-isz
-      (branches interruptTest (eqb (op (w .i)) 3) (on-bit (eqb (op (w .i)) 3)) ends-dca
-      (branches interruptTest (eqb (op (w .i)) 4) (on-bit (eqb (op (w .i)) 4)) ends-jms ends-jmp)))))
+      subst (λ (s : State). Ends v (rows·execute v) (inPlaces v o w) (test s)) (sym (by-op (op (w .i)) e o))
+      (branches (under (under (under (under (and-jmp v))))) test (eqb (op (w .i)) 0) (op-is v o w 0) ends-and
+      (branches (under (under (under (tad-jmp v)))) test (eqb (op (w .i)) 1) (op-is v o w 1) ends-tad
+      (branches (under (under (isz-jmp v))) test (eqb (op (w .i)) 2) (op-is v o w 2) ends-isz
+      (branches (under (dca-jmp v)) test (eqb (op (w .i)) 3) (op-is v o w 3) ends-dca
+      (branches (jms-jmp v) test (eqb (op (w .i)) 4) (op-is v o w 4) ends-jms ends-jmp)))))

@@ -1,12 +1,12 @@
 -- The rows of op 7's second group: the skip, AC, SWITCHES and RUN.
 -- Assumes nothing.
-use mathlib.Core.Path.{_≡_, refl, ap}
-use mathlib.Core.Bool.{Bool, false, not, _&&_, _||_}
+use mathlib.Core.Path.{_≡_, refl, sym, ap, _∙_}
+use mathlib.Core.Bool.{Bool, false, not, _&&_, _||_, Bool·not-not}
 use mathlib.Core.List.{List, _∷_}
 use Prim.Native.Nat.{ℕ, _^_, _<_}
 use native.Mathlib.Omega.{arith}
-use lib.Bits.{bitOr}
-use lib.ListN.{drop}
+use lib.Bits.{bitAnd, bitOr}
+use lib.Dec.{eqb, lit<}
 use Rattle.word.specs.Choice.{on, pick, bit}
 use Rattle.word.specs.Word.{wordBits, bits, next}
 use Rattle.word.proofs.Choice.{pick-either, on-bit, bit-lt}
@@ -14,18 +14,23 @@ use Rattle.word.proofs.Next.{next-lt}
 use Rattle.machine_state.specs.State.{State, Good, withLac, withPc, withRun, link, ac, withAc}
 use Rattle.machine_state.specs.Instruction.{flag}
 use Rattle.machine_state.specs.Interrupt.{testedIf}
+use Rattle.machine_state.proofs.Keeps.{lac-good, pc-good, run-good}
 use Rattle.text_code.specs.Tree.{Expr}
 use Rattle.text_declaration.specs.Rows.{Row, does}
 use Rattle.rows_value.specs.Value as rows
 use Rattle.rows_value.specs.Value.{value}
 use Rattle.machine_operate.specs.Operate.{cleared, sign, skipsPlain, skipsReversed, skips, switched, group2}
-use Rattle.shipped_rows.proofs.Tree.{toSkip, one, rows·group2, rows·inverted, rows·decided}
-use Rattle.shipped_rows.proofs.Places.{Work, Fit, inPlaces, skipping, skipping-fit}
-use Rattle.shipped_rows.proofs.Ends.{Ends, past, seen, acts, moved, jumps, decides}
-use Rattle.shipped_rows.proofs.Bits.{of-test, of-bit, of-zero, negated, both, test, set-where}
-use Rattle.shipped_rows.proofs.Interrupts.{ends-interrupt}
+use Rattle.machine_operate.proofs.Changes.{cleared-lt, switched-lt}
+use Rattle.shipped_rows.specs.Variant.{Variant}
+use Rattle.shipped_rows.proofs.Tree as tree
+use Rattle.shipped_rows.proofs.Tree.{toSkip, one, rows·second, rows·skips, rows·inverted, rows·decided, rows·runs}
+use Rattle.shipped_rows.proofs.Labels.{here, under, at-the-end, interrupt-group3, decided-inverted}
+use Rattle.shipped_rows.proofs.Places.{Work, Fit, inPlaces, withSkip, skip-fit, skip-stored}
+use Rattle.shipped_rows.proofs.Ends.{Ends, past, seen, acts, moved, jumps, decides, Tested}
+use Rattle.shipped_rows.proofs.Working.{i-bits, i-bit, skip-is}
+use Rattle.shipped_rows.proofs.Bits.{Flag, of-test, of-bit, of-zero, negated, both, set-where}
 
-module _ {o : State} {w : Work} (g : Good o) (f : Fit w) where
+module _ (v : Variant) {final : State → State} (tested : Tested v final) {o : State} {w : Work} (g : Good o) (f : Fit w) where
   abbrev i : ℕ
   i = w .i
 
@@ -38,35 +43,51 @@ module _ {o : State} {w : Work} (g : Good o) (f : Fit w) where
       withPc (pick b (next (o .pc)) (o .pc))
       (withLac (switched i (o .switches) (cleared i lac)) (withRun (pick (on (flag 10 i)) 0 (o .run)) o))
 
-  -- states with the skip so far; then with PC counted and another LAC; then with another RUN
-  abbrev skip-is : Bool → rows.State
-  skip-is b = inPlaces o (skipping (bit b) w)
+  decided-good : (b : Bool) → Good (decided b)
+  decided-good b =
+      pc-good (pick-either (λ (x : ℕ). x < 2 ^ wordBits) b (next-lt (o .pc)) (g .pc))
+      (lac-good (switched-lt i (o .switches) (cleared-lt i (g .lac)))
+      (run-good (pick-either (λ (x : ℕ). x < 2) (on (flag 10 i)) (lit< tt) (g .run)) g))
 
-  abbrev lac-is : Bool → ℕ → rows.State
-  lac-is b x = inPlaces (withLac x (withPc (pick b (next (o .pc)) (o .pc)) o)) (skipping (bit b) w)
+  -- the working registers with the skip so far, and states with it; then with PC counted, too, and another LAC; then with another RUN
+  abbrev skipping : Bool → Work
+  skipping b = withSkip (bit b) w
 
-  abbrev run-is : Bool → ℕ → rows.State
-  run-is b x = inPlaces (withRun x (decided b)) (skipping (bit b) w)
+  abbrev skip-so-far : Bool → rows.State
+  skip-so-far b = inPlaces v o (skipping b)
+
+  abbrev counted : Bool → ℕ → State
+  counted b x = withLac x (withPc (pick b (next (o .pc)) (o .pc)) o)
+
+  abbrev lac-so-far : Bool → ℕ → rows.State
+  lac-so-far b x = inPlaces v (counted b x) (skipping b)
+
+  abbrev run-so-far : Bool → ℕ → rows.State
+  run-so-far b x = inPlaces v (withRun x (decided b)) (skipping b)
 
   -- and the interrupt test, unless it halts
-  abbrev tested : Bool → State
-  tested b = testedIf (not (on (flag 10 i))) (decided b)
+  abbrev ended : Bool → State
+  ended b = testedIf final (not (on (flag 10 i))) (decided b)
 
-  ends-decided : (b : Bool) → Ends rows·decided (skip-is b) (tested b)
+  ends-decided : (b : Bool) → Ends v (rows·decided v) (skip-so-far b) (ended b)
   ends-decided b =
-      moved (λ (x : ℕ). inPlaces (withPc x o) (skipping (bit b) w)) (o .pc) (next (o .pc)) b (on-bit b) refl
-      (moved (lac-is b) lac (withAc lac 0) (on (flag 4 i)) refl refl
-      (moved (lac-is b) (cleared i lac) (withAc (cleared i lac) (bitOr (ac (cleared i lac)) (o .switches))) (on (flag 9 i)) refl refl
-      (moved (run-is b) (o .run) 0 (on (flag 10 i)) refl refl
-      (decides (λ (t : Bool). testedIf (not t) (decided b)) (on (flag 10 i)) refl (past (skipping-fit (bit-lt b) f))
-      (jumps refl
-      (ends-interrupt (skipping-fit (bit-lt b) f) (pick-either (λ (x : ℕ). x < 2 ^ wordBits) b (next-lt (o .pc)) (g .pc)) (g .enable) (g .request)))))))
+      moved (λ (x : ℕ). inPlaces v (withPc x o) (skipping b)) (o .pc) (next (o .pc)) b (ap on (skip-is v o (skipping b)) ∙ on-bit b) refl
+      (moved (lac-so-far b) lac (withAc lac 0) (on (flag 4 i)) (i-bit v (counted b lac) (skipping b) 4) refl
+      (moved (lac-so-far b) (cleared i lac) (withAc (cleared i lac) (bitOr (ac (cleared i lac)) (o .switches))) (on (flag 9 i))
+      (i-bit v (counted b (cleared i lac)) (skipping b) 9) refl
+      (moved (run-so-far b) (o .run) 0 (on (flag 10 i)) (i-bit v (withRun (o .run) (decided b)) (skipping b) 10) refl
+      (decides (at-the-end (rows·runs v)) (λ (t : Bool). testedIf final (not t) (decided b)) (on (flag 10 i)) (i-bit v (decided b) (skipping b) 10) (past (skip-fit (bit-lt b) f))
+      (jumps (interrupt-group3 v) refl (tested .ends (decided b) (skipping b) (decided-good b) (skip-fit (bit-lt b) f)))))))
 
   -- a row that sets skip where its condition holds
-  selects : {c : Expr} {rs : List Row} {p : State} (b t : Bool) → on (value (skip-is b) c) ≡ t → Ends rs (skip-is (b || t)) p
-      → Ends (does c toSkip one ∷ rs) (skip-is b) p
+  selects : {c : Expr} {rs : List Row} {p : State} (b t : Bool) → on (value (skip-so-far b) c) ≡ t → Ends v rs (skip-so-far (b || t)) p
+      → Ends v (does c (toSkip v) one ∷ rs) (skip-so-far b) p
   selects b t condition r =
-      moved (λ (x : ℕ). inPlaces o (skipping x w)) (bit b) 1 t condition refl (seen (ap (λ (x : ℕ). inPlaces o (skipping x w)) (set-where b t)) r)
+      moved (λ (x : ℕ). inPlaces v o (withSkip x w)) (bit b) 1 t condition (skip-stored v o (skipping b) 1 refl) (seen (ap (λ (x : ℕ). inPlaces v o (withSkip x w)) (set-where b t)) r)
+
+  -- a condition that bit k of i selects
+  selected : (b : Bool) (k : ℕ) {x : ℕ} {t : Bool} → flag k i < 2 → Flag x t → on (bitAnd (value (skip-so-far b) (tree.iBit v k)) x) ≡ (on (flag k i) && t)
+  selected b k {x} h p = ap (λ (y : ℕ). on (bitAnd y x)) (i-bits v o (skipping b) k k) ∙ both (of-bit (flag k i) h) p
 
   -- bits 5 to 7, by the names that they have in 002
   abbrev sma : Bool
@@ -90,24 +111,24 @@ module _ {o : State} {w : Work} (g : Good o) (f : Fit w) where
   abbrev szl : Bool
   szl = on (flag 7 i) && not (on (link lac))
 
-  ends-plain : Ends (drop 3 rows·group2) (skip-is false) (tested (skipsPlain i lac))
+  ends-plain : Ends v (rows·skips v) (skip-so-far false) (ended (skipsPlain i lac))
   ends-plain =
-      selects false sma (both (of-bit (flag 5 i) (omega arith)) (of-bit (sign lac) (omega arith)))
-      (selects sma sza (both (of-bit (flag 6 i) (omega arith)) (of-zero (ac lac)))
-      (selects (sma || sza) snl (both (of-bit (flag 7 i) (omega arith)) (of-bit (link lac) (omega arith)))
-      (jumps refl (ends-decided (skipsPlain i lac)))))
+      selects false sma (selected false 5 (omega arith) (of-bit (sign lac) (omega arith)))
+      (selects sma sza (selected sma 6 (omega arith) (of-zero (ac lac)))
+      (selects (sma || sza) snl (selected (sma || sza) 7 (omega arith) (of-bit (link lac) (omega arith)))
+      (jumps (decided-inverted v) refl (ends-decided (skipsPlain i lac)))))
 
-  ends-inverted : Ends rows·inverted (skip-is false) (tested (skipsReversed i lac))
+  ends-inverted : Ends v (rows·inverted v) (skip-so-far false) (ended (skipsReversed i lac))
   ends-inverted =
-      selects false none (test (of-zero (bits wordBits 5 7 i)))
-      (selects none spa (both (of-bit (flag 5 i) (omega arith)) (negated (of-bit (sign lac) (omega arith))))
-      (selects (none || spa) sna (both (of-bit (flag 6 i) (omega arith)) (of-test (on (ac lac))))
-      (selects (none || spa || sna) szl (both (of-bit (flag 7 i) (omega arith)) (negated (of-bit (link lac) (omega arith))))
+      selects false none (on-bit _ ∙ ap (λ (x : ℕ). eqb x 0) (i-bits v o (skipping false) 5 7) ∙ sym (Bool·not-not (eqb (bits wordBits 5 7 i) 0)))
+      (selects none spa (selected none 5 (omega arith) (negated (of-bit (sign lac) (omega arith))))
+      (selects (none || spa) sna (selected (none || spa) 6 (omega arith) (of-test (on (ac lac))))
+      (selects (none || spa || sna) szl (selected (none || spa || sna) 7 (omega arith) (negated (of-bit (link lac) (omega arith))))
       (ends-decided (skipsReversed i lac)))))
 
-  -- from the row below its first, which leaves the third group apart
-  pub ends-group2 : Ends (drop 1 rows·group2) (inPlaces o w) (testedIf (not (on (flag 10 i))) (group2 i o))
+  pub ends-second : Ends v (rows·second v) (inPlaces v o w) (testedIf final (not (on (flag 10 i))) (group2 i o))
   unfolding group2 skips
-  ends-group2 =
-      acts (skip-is false) refl refl
-      (decides (λ (t : Bool). tested (pick t (skipsReversed i lac) (skipsPlain i lac))) (on (flag 8 i)) refl ends-inverted ends-plain)
+  ends-second =
+      acts (skip-so-far false) refl (skip-stored v o w 0 refl)
+      (decides (under (under (under (under here)))) (λ (t : Bool). ended (pick t (skipsReversed i lac) (skipsPlain i lac))) (on (flag 8 i)) (i-bit v o (skipping false) 8)
+      ends-inverted ends-plain)

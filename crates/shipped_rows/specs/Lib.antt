@@ -1,2 +1,3 @@
+pub mod Variant
 pub mod Text
 pub mod Shipped

@@ -1,11 +1,14 @@
--- The shipped description's text, line by line: description/pdp8.rows. What it says of the machine need not be believed: that its cycles do the machine's steps is proved.
+-- The shipped descriptions' texts, line by line, in blocks that several of them may have: description/pdp8.rows is the plain machine's. What a text says of the machine
+-- need not be believed: that its cycles do the machine's steps is proved.
 -- Assumes nothing.
 use mathlib.Core.List.{List, _++_}
 use Prim.Native.Nat.{ℕ}
 use Rattle.characters.specs.Ascii.{ascii}
+use Rattle.shipped_rows.specs.Variant.{Variant, plain}
 
-unfoldable pub shippedText : List ℕ
-shippedText =
+-- the header, and the machine registers that every variant has
+abbrev machineLines : List ℕ
+machineLines =
     ascii "rows\t1\n"
     ++ ascii "reg\tLAC\t13\n"
     ++ ascii "reg\tPC\t12\n"
@@ -13,21 +16,37 @@ shippedText =
     ++ ascii "reg\tINTERRUPT.ENABLE\t1\n"
     ++ ascii "reg\tINTERRUPT.REQUEST\t1\n"
     ++ ascii "reg\tSWITCHES\t12\n"
-    ++ ascii "reg\ti\t12\n"
+
+-- "A shipped description's registers that the emulator lacks are its working registers"
+abbrev workingLines : List ℕ
+workingLines =
+    ascii "reg\ti\t12\n"
     ++ ascii "reg\tlast.pc\t12\n"
     ++ ascii "reg\teadd\t12\n"
     ++ ascii "reg\tskip\t1\n"
-    ++ ascii "do\t1\ti\tM[PC]\n"
+
+-- the fetch, and which instructions are of ops 6 and 7
+abbrev fetchLines : List ℕ
+fetchLines =
+    ascii "do\t1\ti\tM[PC]\n"
     ++ ascii "do\t1\tlast.pc\tPC\n"
     ++ ascii "do\t1\tPC\tPC + 1\n"
     ++ ascii "go\ti<0:2> Eql #6\tiot\n"
     ++ ascii "go\ti<0:2> Eql #7\topr\n"
-    ++ ascii "do\t1\teadd\t'00000 @ i<5:11>\n"
+
+-- the address, which ops 0 to 5 work on
+abbrev addressLines : List ℕ
+addressLines =
+    ascii "do\t1\teadd\t'00000 @ i<5:11>\n"
     ++ ascii "do\ti<4>\teadd\tlast.pc<0:4> @ i<5:11>\n"
     ++ ascii "go\tNot i<3>\texecute\n"
     ++ ascii "do\teadd<0:8> Eql #001\tM[eadd]\tM[eadd] + 1\n"
     ++ ascii "do\t1\teadd\tM[eadd]\n"
-    ++ ascii "at\texecute\n"
+
+-- ops 0 to 5
+abbrev referenceLines : List ℕ
+referenceLines =
+    ascii "at\texecute\n"
     ++ ascii "go\ti<0:2> Eql #0\tand\n"
     ++ ascii "go\ti<0:2> Eql #1\ttad\n"
     ++ ascii "go\ti<0:2> Eql #2\tisz\n"
@@ -54,11 +73,19 @@ shippedText =
     ++ ascii "do\t1\tM[eadd]\tPC\n"
     ++ ascii "do\t1\tPC\teadd + 1\n"
     ++ ascii "go\t1\tinterrupt\n"
-    ++ ascii "at\tiot\n"
+
+-- op 6: 6001 and 6002
+abbrev switchLines : List ℕ
+switchLines =
+    ascii "at\tiot\n"
     ++ ascii "do\ti Eql #6001\tINTERRUPT.ENABLE\t1\n"
     ++ ascii "go\ti Eql #6001\trestart\n"
     ++ ascii "do\ti Eql #6002\tINTERRUPT.ENABLE\t0\n"
-    ++ ascii "go\t1\tinterrupt\n"
+
+-- the end of op 6, and op 7
+abbrev operateLines : List ℕ
+operateLines =
+    ascii "go\t1\tinterrupt\n"
     ++ ascii "at\topr\n"
     ++ ascii "go\ti<3>\tgroup.2\n"
     ++ ascii "do\ti<4>\tLAC<1:12>\t0\n"
@@ -96,10 +123,17 @@ shippedText =
     ++ ascii "go\t1\tinterrupt\n"
     ++ ascii "at\tgroup.3\n"
     ++ ascii "do\ti<4>\tLAC<1:12>\t0\n"
-    ++ ascii "at\tinterrupt\n"
+
+-- the interrupt test
+abbrev interruptLines : List ℕ
+interruptLines =
+    ascii "at\tinterrupt\n"
     ++ ascii "go\tNot INTERRUPT.ENABLE\trestart\n"
     ++ ascii "go\tNot INTERRUPT.REQUEST\trestart\n"
     ++ ascii "do\t1\tM[0]\tPC\n"
     ++ ascii "do\t1\tPC\t1\n"
     ++ ascii "do\t1\tINTERRUPT.ENABLE\t0\n"
     ++ ascii "at\trestart\n"
+
+unfoldable pub shippedText : Variant → List ℕ
+shippedText plain = machineLines ++ workingLines ++ fetchLines ++ addressLines ++ referenceLines ++ switchLines ++ operateLines ++ interruptLines

@@ -1,5 +1,6 @@
 // The shipped description of the PDP-8.
 ghost use mathlib.Core.Path.{_≡_};
+ghost use Rattle.shipped_rows.specs.Variant.{plain};
 ghost use Rattle.shipped_rows.specs.Text.{shippedText};
 
 pub const DESCRIPTION_BYTES: usize = 1807;
@@ -106,7 +107,7 @@ at\trestart\n\
 
 // The shipped description.
 pub fn shipped_text() -> [u8; DESCRIPTION_BYTES]
-    ensures { λ r. ⌜ r ≡ shippedText ⌝ }
+    ensures { λ r. ⌜ r ≡ shippedText plain ⌝ }
 {
     DESCRIPTION
 }

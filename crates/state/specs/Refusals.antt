@@ -1,6 +1,7 @@
 -- Document 01's numbers and values for the answers that both engines give: state refusals and the reasons of a run's end.
 -- Assumes nothing.
 use Prim.Native.Nat.{ℕ}
+use Rattle.word.specs.Choice.{on, pick}
 use Rattle.state.specs.declared.Reason.{Reason}
 use Rattle.state.specs.declared.Reason.the-variants.{Halted, Spent}
 use Rattle.state.specs.declared.Refusal.{Refusal}
@@ -24,6 +25,10 @@ placeOf (Word place) = place
 placeOf (Register place) = place
 placeOf Budget = 0
 placeOf RowList = 0
+
+-- "as its reason, `halted` if RUN is 0 at the end, else `spent`"
+abbrev pub reasonOf : ℕ → Reason
+reasonOf run = pick (on run) Spent Halted
 
 -- the number of a reason in the C interface; 0 is kept for a refusal
 abbrev pub reasonNumber : Reason → ℕ

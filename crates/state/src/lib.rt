@@ -5,7 +5,7 @@ ghost use mathlib.Core.Path.{_≡_};
 ghost use lib.ListN.{getD};
 ghost use Rattle.word.specs.Word.{widest, fits};
 ghost use Rattle.state.specs.Checks.{firstTooWide, checkMemory, checkRegisters, checkBudget, checkState, checkRowList};
-ghost use Rattle.state.specs.Refusals.{orElse};
+ghost use Rattle.state.specs.Refusals.{reasonOf, orElse};
 
 pub const MEMORY_WORDS: usize = 4096;
 
@@ -34,6 +34,17 @@ pub enum Refusal {
 pub enum Verdict {
     Fit,
     Unfit(Refusal),
+}
+
+// Why a run ended, by RUN at its end.
+pub fn reason_of(run: u64) -> Reason
+    ensures { λ r. ⌜ r ≡ reasonOf run ⌝ }
+{
+    if run != 0 {
+        Reason::Spent
+    } else {
+        Reason::Halted
+    }
 }
 
 // The bits that a place may hold: its width, or what every place past the widths has.

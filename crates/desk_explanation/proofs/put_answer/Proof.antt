@@ -4,8 +4,7 @@ use native.Mathlib.Omega.{arith}
 use mathlib.Core.Path.{_≡_}
 use Prim.Native.Nat.{_≤_}
 use lib.ListN.{length}
-use Rattle.word.specs.Choice.{on, pick}
-use Rattle.state.specs.declared.Reason.the-variants.{Halted, Spent}
+use Rattle.state.specs.Refusals.{reasonOf}
 use Rattle.page.proofs.Numbers.{decimal-length}
 use Rattle.page.proofs.Writing.{written-then, written-page}
 use Rattle.desk_last_lines.specs.LastLines.{endLine}
@@ -17,8 +16,8 @@ use Rattle.desk_explanation.proofs.put_answer.Statement.{statement}
 use Rattle.desk_explanation.proofs.put_answer.Tie as tie
 
 -- the bytes of the parts
-end-size : (start : tie.Start) → length (endLine (start .args .steps) (pick (on (start .args .m .run)) Spent Halted)) ≤ 32
-end-size start = end-within (start .args .steps) (pick (on (start .args .m .run)) Spent Halted) (search needs)
+end-size : (start : tie.Start) → length (endLine (start .args .steps) (reasonOf (start .args .m .run))) ≤ 32
+end-size start = end-within (start .args .steps) (reasonOf (start .args .m .run)) (search needs)
 
 step-size : (start : tie.Start) → length (lastStep (start .args .steps) (start .args .pc) (start .args .before .now) (start .args .memory .now)) ≤ 198
 step-size start = let a = start .args in

@@ -2,8 +2,9 @@
 use mathlib.Core.Path.{sym, ap, _∙_, subst}
 use denote.Ref.{now}
 use Rattle.machine_state.specs.declared.Machine.{Machine}
-use Rattle.machine_state.specs.State.{start, Good}
-use Rattle.machine_run.specs.Run.{Run, run}
+use Rattle.machine_state.specs.State.{State, start, Good}
+use Rattle.runs.specs.Run.{Ended}
+use Rattle.machine_run.specs.Run.{run}
 use Rattle.emulator.specs.Emulate.{finished}
 use Rattle.machine_state.proofs.Keeps.{good-narrow}
 use Rattle.machine_run.proofs.Runs.{run-good}
@@ -24,10 +25,10 @@ closed-requires c κs =
     let call = c .before .before .before in
     let begin = call .before .before .before .before in
     let good = subst (λ (m : Machine). Good (start m (now (begin .args .memory)))) (sym (call .before .opened .ensures)) (begin .pre) in
-    good-narrow (subst Good (sym (ap (λ (r : Run). r .state) (call .run .ensures))) (run-good (begin .args .budget) good))
+    good-narrow (subst Good (sym (ap (λ (r : Ended State). r .left) (call .run .ensures))) (run-good (begin .args .budget) good))
 
-reason-requires : tie.Need-reason-requires
-reason-requires c κs = search needs
+reason-of-requires : tie.Need-reason-of-requires
+reason-of-requires c κs = search needs
 
 same-length : tie.Need-same-length
 same-length c = search needs
@@ -36,10 +37,10 @@ returns : tie.Need-returns
 returns c =
     let call = c .before .before .before .before .before in
     let begin = call .before .before .before .before .args in
-    rw (c .before .closed .ensures, c .reason .ensures)
+    rw (c .before .closed .ensures, c .reason-of .ensures)
     (ap finished (call .run .ensures) ∙ ap (λ (m : Machine). finished (run (begin .budget) (start m (now (begin .memory))))) (call .before .opened .ensures))
 
 pub finished-spec : {M : Type 1} → statement M
 finished-spec =
     tie.close
-    (tie.spec opened-requires run-requires closed-requires reason-requires same-length returns)
+    (tie.spec opened-requires run-requires closed-requires reason-of-requires same-length returns)

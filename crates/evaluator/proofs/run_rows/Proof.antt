@@ -23,7 +23,7 @@ returns : tie.Need-returns
 returns c =
     let r = c .before .before .before .before .before .before .before .before in
     let a = r .before .before .before .before .before .before .before .before .args in
-    finish _ (r .run .result) _ _ (a .rows .now) _ (r .run .ensures) (c .before .before .before .put-rows .ensures)
+    finish _ _ (r .run .result) _ _ (a .rows .now) _ (r .run .ensures) (c .before .before .before .put-rows .ensures)
 
 pub run-rows-spec : {M : Type 1} → statement M
 run-rows-spec =

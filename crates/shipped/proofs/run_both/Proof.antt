@@ -1,4 +1,5 @@
 -- `shipped::run_both`: the claim of the two programs' own answers.
+use Rattle.shipped_rows.specs.Variant.{plain}
 use Rattle.shipped.proofs.Unrefused.{together}
 use borrow.Author.Needs.{needs}
 use Rattle.shipped.proofs.run_both.Statement.{statement}
@@ -26,7 +27,7 @@ returns c =
     let start = emulated .before .before .before .before .before in
     let a = start .args in
     let sixteen = start .good .1 .1 .1 .0 in
-    together (a .m) (a .registers .values) (a .first .now) (a .second .now) (a .budget) (a .rows .now) _ _ (search needs)
+    together plain (a .m) (a .registers .values) (a .first .now) (a .second .now) (a .budget) (a .rows .now) _ _ (search needs)
     (emulated .emulate .ensures) (evaluated .evaluate-shipped .ensures)
 
 pub run-both-spec : {M : Type 1} → statement M

@@ -6,8 +6,7 @@ use mathlib.Core.Bool.{not}
 use mathlib.Core.Logic.{⊎-elim, inl, inr}
 use native.Mathlib.Omega.{arith}
 use Prim.Native.Nat.{_-_}
-use Rattle.word.specs.Choice.{on, pick}
-use Rattle.state.specs.declared.Reason.the-variants.{Halted, Spent}
+use Rattle.state.specs.Refusals.{reasonOf}
 use Rattle.machine_state.specs.Processor.{at as state}
 use Rattle.desk_day_listing.specs.Listing.{budget}
 use Rattle.desk_day_listing.specs.Stepped.{pageBytes}
@@ -69,7 +68,7 @@ returns c = let head = c .before .before .before .before in
     let at = head .loop .inv in
     let w = head .loop .w in
     let how = ⊎-elim (λ q. inl (q .left)) (λ q. inr (q .2 .taken)) (c .before .before .if1 .came) in
-    let size = end-size (w .done) (pick (on (w .processor .run)) Spent Halted) in
+    let size = end-size (w .done) (reasonOf (w .processor .run)) in
     let short = decimal-length 1 (w .done) (omega (arith, at .count)) in
     rw run-listing
     (written-page pageBytes _ (search needs) (omega (arith, c .put-end-line .ensures .place, at .room, at .count, title .place, size, short))

@@ -6,6 +6,7 @@ use lib.ListN.{length}
 use Rattle.page.proofs.Writing.{written-none}
 use Rattle.characters.specs.Characters.{same}
 use Rattle.text_declaration.specs.Lines.{goWord}
+use Rattle.shipped_rows.specs.Variant.{plain}
 use Rattle.shipped_rows.specs.Text.{shippedText}
 use Rattle.desk_run_lines.specs.Rows.{rowBelow, atLine, labelLine}
 use Rattle.desk_run_lines.proofs.RowTexts.{go-label, no-go}
@@ -19,7 +20,7 @@ label-is c = let test = c .before .before in
     let word = test .before .before .before in
     let go = sym (test .before .is-same .ensures ∙ ap (λ f. same f goWord) (word .field-of .ensures)) ∙ test .if1 .taken in
     go-label (word .before .before .args .line .now) go
-    ∙ ap (λ l. atLine l (rowBelow l shippedText)) (sym (c .before .field-of2 .ensures))
+    ∙ ap (λ l. atLine l (rowBelow l (shippedText plain))) (sym (c .before .field-of2 .ensures))
     ∙ ap (atLine (c .before .field-of2 .result .now)) (sym (c .row-below .ensures))
 
 field-of-requires : tie.Need-field-of-requires

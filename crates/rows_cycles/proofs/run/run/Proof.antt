@@ -49,8 +49,11 @@ loop-again c =
 value-at-requires-2 : tie.Need-value-at-requires-2 Inv-loop μ-loop
 value-at-requires-2 c κs = search needs
 
-reason-requires : tie.Need-reason-requires Inv-loop μ-loop
-reason-requires c κs = search needs
+cast-reason-of : tie.Need-cast-reason-of Inv-loop μ-loop
+cast-reason-of c = search needs
+
+reason-of-requires : tie.Need-reason-of-requires Inv-loop μ-loop
+reason-of-requires c κs = search needs
 
 same-length : tie.Need-same-length Inv-loop μ-loop
 same-length c =
@@ -61,8 +64,8 @@ returns c =
     let g = c .before .before .before .before .loop .inv in
     let v = c .before .value-at2 in
     elim (c .before .before .before .loop-test .came) [
-      | inl x ↦ going-spent _ _ _ _ _ _ _ _ _ _ g (v .result) _ (v .ensures) (c .reason .ensures) refl refl refl (x .left)
-      | inr y ↦ going-halted _ _ _ _ _ _ _ _ _ _ g (v .result) _ (v .ensures) (c .reason .ensures) refl refl refl (y .2 .result) (y .2 .ensures) (y .3 .taken)
+      | inl x ↦ going-spent _ _ _ _ _ _ _ _ _ _ g (v .result) _ (v .ensures) (c .reason-of .ensures) refl refl refl (x .left)
+      | inr y ↦ going-halted _ _ _ _ _ _ _ _ _ _ g (v .result) _ (v .ensures) (c .reason-of .ensures) refl refl refl (y .2 .result) (y .2 .ensures) (y .3 .taken)
     ]
 
 pub run-spec : {M : Type 1} → statement M
@@ -78,6 +81,7 @@ run-spec =
     loop-less
     loop-again
     value-at-requires-2
-    reason-requires
+    cast-reason-of
+    reason-of-requires
     same-length
     returns)

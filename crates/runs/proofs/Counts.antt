@@ -1,7 +1,7 @@
 -- The steps that a run reports: they are the steps made, at most the budget, and exactly the budget where the run would go on. And its last step.
 -- Assumes nothing.
 use mathlib.Core.Path.{_≡_, refl, sym, ap, _∙_, subst}
-use mathlib.Core.Bool.{Bool, true, false}
+use mathlib.Core.Bool.{Bool, true}
 use Prim.Native.Nat.{ℕ, zero, suc, _+_, _≤_, _<_, suc-le-suc}
 use native.Mathlib.Nat.{zero-add, add-zero, suc-add, add-suc, zero-lt-suc}
 use native.Mathlib.Omega.{arith}

@@ -25,7 +25,7 @@ use Rattle.shipped_rows.proofs.Labels.{here, under}
 use Rattle.shipped_rows.proofs.Places.{Work, Fit, inPlaces, withEadd, eadd-fit, work-read, eadd-stored}
 use Rattle.shipped_rows.proofs.Ends.{Ends, seen, acts, moved, unless, Tested}
 use Rattle.shipped_rows.proofs.Working.{i-bits, last-page, i-bit, at-eadd}
-use Rattle.shipped_rows.proofs.Bits.{of-bit, negated, test, index-bits}
+use Rattle.shipped_rows.proofs.Bits.{of-bit, negated, on-flag, index-bits}
 use Rattle.shipped_rows.proofs.References.{ends-execute}
 
 -- the address of the page that is chosen
@@ -37,7 +37,7 @@ page-chosen false x y a = refl
 on-page : (page : ℕ) (i : ℕ) → page < 2 ^ 5 → address page (pa i) % 2 ^ wordBits ≡ address page (pa i)
 on-page page i h = omega arith
 
-module _ (v : Variant) {final : State → State} (tested : Tested v final) {o : State} {w : Work} (g : Good o) (f : Fit w) where
+module _ (v : Variant) {test : State → State} (tested : Tested v test) {o : State} {w : Work} (g : Good o) (f : Fit w) where
   abbrev first : ℕ
   first = firstAddress (w .i) (w .last)
 
@@ -67,7 +67,7 @@ module _ (v : Variant) {final : State → State} (tested : Tested v final) {o : 
   after-good =
       pick-either (λ (m : List ℕ). Good (withMemory m o)) (isIndex first) (stored-good first (next-lt (getD (o .memory) first 0)) g) g
 
-  pub ends-address : Ends v (rows·address v) (inPlaces v o w) (final (reference (w .i) (w .last) o))
+  pub ends-address : Ends v (rows·address v) (inPlaces v o w) (test (reference (w .i) (w .last) o))
   unfolding reference effective afterIndexing indexed
   ends-address =
       acts (eadd-is zero-page) refl
@@ -78,9 +78,9 @@ module _ (v : Variant) {final : State → State} (tested : Tested v final) {o : 
       ∙ on-page (bits wordBits 0 4 (w .last)) (w .i) (omega arith)))
       (seen (ap eadd-is chosen)
       (unless (under (under here))
-      (λ (t : Bool). final (operation (op (w .i)) (pick t (getD after first 0) first) (withMemory (pick t after (o .memory)) o)))
+      (λ (t : Bool). test (operation (op (w .i)) (pick t (getD after first 0) first) (withMemory (pick t after (o .memory)) o)))
       (on (ib (w .i)))
-      (ap (λ (x : ℕ). on (complement 1 x)) (i-bits v o (withEadd first w) 3 3) ∙ test (negated (of-bit (ib (w .i)) (omega arith))))
+      (ap (λ (x : ℕ). on (complement 1 x)) (i-bits v o (withEadd first w) 3 3) ∙ on-flag (negated (of-bit (ib (w .i)) (omega arith))))
       (ends-execute v tested g (eadd-fit first-lt f))
       (moved (λ (m : List ℕ). inPlaces v (withMemory m o) (withEadd first w)) (o .memory) (set (o .memory) first (next (getD (o .memory) first 0)))
       (isIndex first)

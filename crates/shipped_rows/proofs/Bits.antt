@@ -48,8 +48,8 @@ both {x} {y} {t} {u} p q = ap₂ (λ (a b : ℕ). on (bitAnd a b)) (p .is) (q .i
     go false false = refl
 
 -- a bit, as the rows test it
-pub test : {x : ℕ} {t : Bool} → Flag x t → on x ≡ t
-test {x} {t} p = ap on (p .is) ∙ on-bit t
+pub on-flag : {x : ℕ} {t : Bool} → Flag x t → on x ≡ t
+on-flag {x} {t} p = ap on (p .is) ∙ on-bit t
 
 -- a bit that is set where a test holds
 pub set-where : (b t : Bool) → pick t 1 (bit b) ≡ bit (b || t)

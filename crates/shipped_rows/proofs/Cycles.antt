@@ -9,7 +9,7 @@ use Rattle.word.specs.Word.{wordBits, next}
 use Rattle.word.proofs.Next.{next-lt}
 use Rattle.machine_state.specs.State.{State, Good, word, withPc}
 use Rattle.machine_state.specs.Instruction.{op}
-use Rattle.machine_state.specs.Interrupt.{interruptTest, testedIf}
+use Rattle.machine_state.specs.Interrupt.{testedIf}
 use Rattle.machine_state.proofs.Keeps.{pc-good}
 use Rattle.machine_run.specs.Step.{execute, makesTest, stepWith, step}
 use Rattle.machine_run.proofs.Tested.{tested-by-op}

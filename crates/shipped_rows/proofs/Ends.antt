@@ -4,13 +4,13 @@
 use mathlib.Core.Path.{_≡_, refl, ap, _∙_}
 use mathlib.Core.Bool.{Bool, true, false, not}
 use mathlib.Core.List.{List, [], _∷_}
-use Prim.Native.Nat.{ℕ, _-_}
-use lib.ListN.{length, drop}
+use Prim.Native.Nat.{_-_}
+use lib.ListN.{length}
 use Rattle.word.specs.Choice.{on, pick}
 use Rattle.word.proofs.Choice.{case-true, case-false}
 use Rattle.machine_state.specs.State.{State, Good}
 use Rattle.text_code.specs.Tree.{Expr, Destination}
-use Rattle.text_declaration.specs.Rows.{Row, does, goes}
+use Rattle.text_declaration.specs.Rows.{Row, does}
 use Rattle.rows_value.specs.Value as rows
 use Rattle.rows_value.specs.Value.{value, store}
 use Rattle.shipped_rows.specs.Variant.{Variant}

@@ -16,7 +16,7 @@ use Rattle.shipped_rows.proofs.Labels.{at-the-end, interrupt-opr}
 use Rattle.shipped_rows.proofs.Places.{Work, Fit, inPlaces}
 use Rattle.shipped_rows.proofs.Ends.{Ends, past, acts, idles, jumps, stays, Tested}
 use Rattle.shipped_rows.proofs.Working.{i-is}
-use Rattle.shipped_rows.proofs.Bits.{of-bit, negated, test}
+use Rattle.shipped_rows.proofs.Bits.{of-bit, negated, on-flag}
 
 module _ (v : Variant) {o : State} {w : Work} (f : Fit w) where
   -- "M[0] = PC, PC = 1, INTERRUPT.ENABLE = 0"
@@ -36,7 +36,7 @@ unfolding interruptTest
 rows-test v =
     record {
       ends = λ o w g f.
-          interrupts v f (g .pc) (on (o .enable)) (on (o .request)) (test (negated (of-bit (o .enable) (g .enable)))) (test (negated (of-bit (o .request) (g .request))));
+          interrupts v f (g .pc) (on (o .enable)) (on (o .request)) (on-flag (negated (of-bit (o .enable) (g .enable)))) (on-flag (negated (of-bit (o .request) (g .request))));
     }
 
 -- op 6 by the two words that it knows

@@ -1,6 +1,6 @@
 -- The rows of op 7: its first and third group, and which group it is.
 -- Assumes nothing.
-use mathlib.Core.Path.{_≡_, refl, ap}
+use mathlib.Core.Path.{refl, ap}
 use mathlib.Core.Bool.{Bool, true, not, _&&_}
 use mathlib.Core.List.{List}
 use Prim.Native.Nat.{ℕ, _+_, _%_, _^_, _<_}
@@ -20,8 +20,8 @@ use Rattle.machine_operate.specs.Operate as machine
 use Rattle.machine_operate.specs.Operate.{cleared, linkCleared, complemented, linkComplemented, increased, changed, group1, group2, group3, clearsRun, operate}
 use Rattle.machine_operate.proofs.Changes.{cleared-lt, changed-lt}
 use Rattle.shipped_rows.specs.Variant.{Variant}
-use Rattle.shipped_rows.proofs.Tree.{rows·opr, rows·group1, rows·twice, rotates, rows·group2, rows·group3, rows·interrupt}
-use Rattle.shipped_rows.proofs.Labels.{Below, here, under, through, interrupt-group2, interrupt-twice, group2-twice, group3-inverted}
+use Rattle.shipped_rows.proofs.Tree.{rows·opr, rows·group1, rotates, rows·group3, rows·interrupt}
+use Rattle.shipped_rows.proofs.Labels.{Below, here, under, interrupt-group2, interrupt-twice, group2-twice, group3-inverted}
 use Rattle.shipped_rows.proofs.Places.{Work, Fit, inPlaces}
 use Rattle.shipped_rows.proofs.Ends.{Ends, moved, jumps, decides, Tested}
 use Rattle.shipped_rows.proofs.Working.{i-bit}

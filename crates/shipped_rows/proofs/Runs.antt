@@ -1,6 +1,6 @@
 -- A run by cycles of the shipped rows and a run by steps of the machine end alike.
 -- Assumes nothing.
-use mathlib.Core.Path.{_≡_, refl, ap, _∙_}
+use mathlib.Core.Path.{_≡_, ap, _∙_}
 use Prim.Native.Nat.{ℕ}
 use lib.ListN.{getD}
 use Rattle.word.specs.Choice.{on}
@@ -18,9 +18,8 @@ use Rattle.rows_value.specs.Value as rows
 use Rattle.rows_cycles.specs.Cycle.{Cycle, cycle}
 use Rattle.rows_cycles.specs.Run as cycles
 use Rattle.rows_cycles.specs.Run.{goesOn, fromLast, atEntry, running}
-use Rattle.shipped_rows.specs.Variant.{Variant, plain}
+use Rattle.shipped_rows.specs.Variant.{Variant}
 use Rattle.shipped_rows.specs.Shipped.{shipped}
-use Rattle.shipped_rows.proofs.Tree.{tree}
 use Rattle.shipped_rows.proofs.Accepted.{shipped-is}
 use Rattle.shipped_rows.proofs.Places.{Work, Fit, inPlaces}
 use Rattle.shipped_rows.proofs.Cycles.{cycles-step}

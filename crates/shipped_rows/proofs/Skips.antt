@@ -30,7 +30,7 @@ use Rattle.shipped_rows.proofs.Ends.{Ends, past, seen, acts, moved, jum
 use Rattle.shipped_rows.proofs.Working.{i-bits, i-bit, skip-is}
 use Rattle.shipped_rows.proofs.Bits.{Flag, of-test, of-bit, of-zero, negated, both, set-where}
 
-module _ (v : Variant) {final : State → State} (tested : Tested v final) {o : State} {w : Work} (g : Good o) (f : Fit w) where
+module _ (v : Variant) {test : State → State} (tested : Tested v test) {o : State} {w : Work} (g : Good o) (f : Fit w) where
   abbrev i : ℕ
   i = w .i
 
@@ -67,7 +67,7 @@ module _ (v : Variant) {final : State → State} (tested : Tested v final) {o : 
 
   -- and the interrupt test, unless it halts
   abbrev ended : Bool → State
-  ended b = testedIf final (not (on (flag 10 i))) (decided b)
+  ended b = testedIf test (not (on (flag 10 i))) (decided b)
 
   ends-decided : (b : Bool) → Ends v (rows·decided v) (skip-so-far b) (ended b)
   ends-decided b =
@@ -76,7 +76,7 @@ module _ (v : Variant) {final : State → State} (tested : Tested v final) {o : 
       (moved (lac-so-far b) (cleared i lac) (withAc (cleared i lac) (bitOr (ac (cleared i lac)) (o .switches))) (on (flag 9 i))
       (i-bit v (counted b (cleared i lac)) (skipping b) 9) refl
       (moved (run-so-far b) (o .run) 0 (on (flag 10 i)) (i-bit v (withRun (o .run) (decided b)) (skipping b) 10) refl
-      (decides (at-the-end (rows·runs v)) (λ (t : Bool). testedIf final (not t) (decided b)) (on (flag 10 i)) (i-bit v (decided b) (skipping b) 10) (past (skip-fit (bit-lt b) f))
+      (decides (at-the-end (rows·runs v)) (λ (t : Bool). testedIf test (not t) (decided b)) (on (flag 10 i)) (i-bit v (decided b) (skipping b) 10) (past (skip-fit (bit-lt b) f))
       (jumps (interrupt-group3 v) refl (tested .ends (decided b) (skipping b) (decided-good b) (skip-fit (bit-lt b) f)))))))
 
   -- a row that sets skip where its condition holds
@@ -126,7 +126,7 @@ module _ (v : Variant) {final : State → State} (tested : Tested v final) {o : 
       (selects (none || spa || sna) szl (selected (none || spa || sna) 7 (omega arith) (negated (of-bit (link lac) (omega arith))))
       (ends-decided (skipsReversed i lac)))))
 
-  pub ends-second : Ends v (rows·second v) (inPlaces v o w) (testedIf final (not (on (flag 10 i))) (group2 i o))
+  pub ends-second : Ends v (rows·second v) (inPlaces v o w) (testedIf test (not (on (flag 10 i))) (group2 i o))
   unfolding group2 skips
   ends-second =
       acts (skip-so-far false) refl (skip-stored v o w 0 refl)

@@ -123,12 +123,12 @@ operateLines =
     ++ ascii "go\t1\tinterrupt\n"
     ++ ascii "at\tgroup.3\n"
     ++ ascii "do\ti<4>\tLAC<1:12>\t0\n"
+    ++ ascii "at\tinterrupt\n"
 
 -- the interrupt test
 abbrev interruptLines : List ℕ
 interruptLines =
-    ascii "at\tinterrupt\n"
-    ++ ascii "go\tNot INTERRUPT.ENABLE\trestart\n"
+    ascii "go\tNot INTERRUPT.ENABLE\trestart\n"
     ++ ascii "go\tNot INTERRUPT.REQUEST\trestart\n"
     ++ ascii "do\t1\tM[0]\tPC\n"
     ++ ascii "do\t1\tPC\t1\n"

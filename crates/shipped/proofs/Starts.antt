@@ -50,7 +50,7 @@ spelled-is : (at n : ℕ) (l : List ℕ) → at + n ≤ length l → drop at l �
 spelled-is at zero l h = refl
 spelled-is at (suc n) l h = drop-cons l at 0 (omega arith) ∙ ap (λ (t : List ℕ). getD l at 0 ∷ t) (spelled-is (suc at) n l (omega arith))
 
--- the working registers among the evaluator's places: there is room for them
+-- the working registers among the evaluator's places
 abbrev workPart : Variant → List ℕ → List ℕ
 workPart v l = drop (length (registersOf v)) l
 
@@ -58,6 +58,7 @@ abbrev pub workOf : Variant → List ℕ → Work
 workOf v l =
     record { i = getD (workPart v l) 0 0; last = getD (workPart v l) 1 0; eadd = getD (workPart v l) 2 0; skip = getD (workPart v l) 3 0; rest = drop 4 (workPart v l) }
 
+-- there is room for them
 roomy : (v : Variant) → length (registersOf v) + length workingRegisters ≤ mostRegisters
 roomy plain = lit≤ tt
 

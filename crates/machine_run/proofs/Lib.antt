@@ -4,4 +4,5 @@ pub mod Changed
 pub mod Keeps
 pub mod Marked
 pub mod Runs
+pub mod Rewritten
 pub mod Steps

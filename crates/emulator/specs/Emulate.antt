@@ -1,12 +1,16 @@
 -- The emulator's answer for every memory, register set and budget: refusals 11 to 14, then the run.
 -- Assumes nothing.
 use Prim.Native.Nat.{ℕ}
-use mathlib.Core.List.{List}
-use Rattle.state.specs.Refusals.{numberOf, placeOf, reasonOf, reasonNumber}
+use mathlib.Core.List.{List, _++_}
+use lib.ListN.{length}
+use Rattle.state.specs.Refusals.{numberOf, placeOf, reasonOf, reasonWith, reasonNumber}
 use Rattle.state.specs.Checks.{checkState}
 use Rattle.state.specs.declared.Reason.{Reason}
 use Rattle.state.specs.declared.Refusal.{Refusal}
 use Rattle.state.specs.declared.Verdict.the-variants.{Fit, Unfit}
+use Rattle.devices.specs.declared.Devices.{Devices}
+use Rattle.devices.specs.Devices.{deviceWidths, deviceValues}
+use Rattle.devices.specs.Session.{Session, placeLeft, opened, Exchange, exchanged, untouched}
 use Rattle.machine_state.specs.declared.Machine.{Machine}
 use Rattle.emulator.specs.declared.Answer.{Answer}
 use Rattle.emulator.specs.declared.Answer.the-variants.{Ran, Refused}
@@ -14,6 +18,8 @@ use Rattle.machine_state.specs.State.{State, start, registers}
 use Rattle.machine_state.specs.Registers.{widths, values}
 use Rattle.runs.specs.Run.{Ended}
 use Rattle.machine_run.specs.Run.{run}
+use Rattle.machine_console.specs.Console as machine
+use Rattle.machine_console.specs.Console.{Console, console}
 
 -- everything that a caller finds after the call, in document 01's numbers
 pub record Report : Type 0 where
@@ -23,7 +29,7 @@ pub record Report : Type 0 where
   pub place : ℕ
   -- "A refusal reports 0 steps"
   pub steps : ℕ
-  -- 1 halted, 2 spent, 0 after a refusal
+  -- 1 halted, 2 spent, 3 paper, 0 after a refusal
   pub reason : ℕ
   pub machine : Machine
   pub memory : List ℕ
@@ -48,3 +54,33 @@ finished r = ran (registers (r .left)) (reasonOf (r .left .run)) (r .steps) (r .
 
 unfoldable pub emulate : Machine → List ℕ → ℕ → Report
 emulate m memory budget = elim (checkState widths (values m) memory budget) [ Fit ↦ finished (run budget (start m memory)) | Unfit why ↦ refused why m memory ]
+
+-- ---- with devices: document 02, Two
+
+-- the same, and what became of the devices, the input and the output
+pub record DeviceReport : Type 0 where
+  pub report : Report
+  pub devices : Devices
+  pub exchange : Exchange
+
+-- what a run comes to
+abbrev pub finishedDevices : List ℕ → List ℕ → Ended (Session Console) → DeviceReport
+finishedDevices input output r =
+    let s : State = r .left .engine .state in
+    record {
+      report = ran (registers s) (reasonWith (s .run) (placeLeft (length output) (r .left))) (r .steps) (s .memory);
+      devices = r .left .engine .devices;
+      exchange = exchanged input output (r .left);
+    }
+
+-- "after a refusal .. so does everything lent"
+abbrev pub refusedDevices : Refusal → Machine → Devices → List ℕ → List ℕ → DeviceReport
+refusedDevices why m c memory output = record { report = refused why m memory; devices = c; exchange = untouched output }
+
+-- "the emulator has them, after the six in this order, only with devices": 13 looks at the eleven
+unfoldable pub emulateDevices : Machine → Devices → List ℕ → ℕ → List ℕ → List ℕ → DeviceReport
+emulateDevices m c memory budget input output =
+    elim (checkState (widths ++ deviceWidths) (values m ++ deviceValues c) memory budget) [
+      | Fit ↦ finishedDevices input output (machine.run (length output) budget (opened (console (start m memory) c) input))
+      | Unfit why ↦ refusedDevices why m c memory output
+    ]

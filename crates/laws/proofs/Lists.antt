@@ -2,13 +2,13 @@
 -- Assumes nothing.
 use mathlib.Core.Path.{_≡_, refl, sym, ap, _∙_}
 use mathlib.Core.List.{List, [], _∷_, _++_}
-use Prim.Native.Nat.{ℕ, zero, suc, _+_, _<_}
+use Prim.Native.Nat.{ℕ, zero, suc, _+_, _≤_, _<_}
 use native.Mathlib.Nat.{zero-add, add-zero, add-suc, suc-add, le-of-lt}
 use native.Mathlib.Numerals.{add-one}
 use native.Mathlib.Omega.{arith}
 use lib.Dec.{ltb}
-use lib.ListN.{length, getD, set, take, List·getD-eq-default}
-use lib.Seq.{sets, take-suc, length-take-le}
+use lib.ListN.{length, getD, set, take, drop, drop-of-length-le, List·getD-eq-default}
+use lib.Seq.{sets, take-suc, length-take-le, drop-cons}
 use borrow.Author.Tests.{ltb-true, ltb-false}
 use Rattle.laws.proofs.Tests.{by-test}
 
@@ -47,3 +47,22 @@ pub sets-more : (l s : List ℕ) (at i : ℕ) → i < length s → set (sets l a
 sets-more l s at i h =
     sets-behind l at (at + i) (take i s) (getD s i 0 ∷ []) (ap (λ (k : ℕ). at + k) (sym (length-take-le i s (le-of-lt h))))
     ∙ ap (sets l at) (sym (ap (λ (k : ℕ). take k s) (add-one i) ∙ take-suc s i 0 h))
+
+-- n places of a list one by one from a place on, then a rest
+abbrev pub spelled : ℕ → ℕ → List ℕ → List ℕ → List ℕ
+spelled at zero rest l = rest
+spelled at (suc n) rest l = getD l at 0 ∷ spelled (suc at) n rest l
+
+-- with the places that follow they are the list
+pub spelled-is : (at n : ℕ) (l : List ℕ) → at + n ≤ length l → drop at l ≡ spelled at n (drop (at + n) l) l
+spelled-is at zero l h = ap (λ (k : ℕ). drop k l) (sym (add-zero at))
+spelled-is at (suc n) l h =
+    drop-cons l at 0 (omega arith)
+    ∙ ap (λ (t : List ℕ). getD l at 0 ∷ t)
+    (spelled-is (suc at) n l (omega arith) ∙ ap (λ (k : ℕ). spelled (suc at) n (drop k l) l) (suc-add at n ∙ sym (add-suc at n)))
+
+-- a list of n places, one by one
+pub spelled-all : (n : ℕ) (l : List ℕ) → length l ≡ n → spelled 0 n [] l ≡ l
+spelled-all n l e =
+    let h : length l ≤ 0 + n = omega (arith, e) in
+    sym (spelled-is 0 n l (omega (arith, e)) ∙ ap (λ (rest : List ℕ). spelled 0 n rest l) (drop-of-length-le l h))

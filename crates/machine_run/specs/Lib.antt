@@ -2,3 +2,4 @@ pub mod Step
 pub mod Base
 pub mod Run
 pub mod Marked
+pub mod Stretch

@@ -10,7 +10,7 @@ use Rattle.word.proofs.Choice.{pick-either}
 use Rattle.state.specs.Acceptable.{Acceptable}
 use Rattle.state.proofs.Accepted.{store-acceptable}
 use Rattle.machine_state.specs.declared.Processor.{Processor}
-use Rattle.machine_state.specs.State.{State, Good, stored, withLac, withPc, withRun, withEnable, withMemory, lacBits}
+use Rattle.machine_state.specs.State.{State, Good, stored, withLac, withPc, withRun, withEnable, withRequest, withMemory, lacBits}
 use Rattle.machine_state.specs.Processor.{at, Narrow}
 use Rattle.machine_state.specs.Interrupt.{takesInterrupt, interruptTest, testedIf, inputOutput, ion, iof}
 
@@ -29,6 +29,10 @@ run-good h g =
 pub enable-good : {s : State} {x : ℕ} → x < 2 → Good s → Good (withEnable x s)
 enable-good h g =
     record { lac = g .lac; pc = g .pc; run = g .run; enable = h; request = g .request; switches = g .switches; memory = g .memory }
+
+pub request-good : {s : State} {x : ℕ} → x < 2 → Good s → Good (withRequest x s)
+request-good h g =
+    record { lac = g .lac; pc = g .pc; run = g .run; enable = g .enable; request = h; switches = g .switches; memory = g .memory }
 
 pub memory-good : {s : State} {memory : List ℕ} → Acceptable memory → Good s → Good (withMemory memory s)
 memory-good h g =

@@ -11,7 +11,7 @@ use native.Mathlib.Omega.{arith}
 use lib.Dec.{lit≤}
 use lib.ListN.{length, getD, set, take, drop, drop-of-length-le, List·getD-map}
 use lib.Seq.{sets, drop-cons}
-use Rattle.laws.proofs.Lists.{sets-more}
+use Rattle.laws.proofs.Lists.{sets-more, spelled-all}
 use Rattle.characters.specs.Characters.{same}
 use Rattle.characters.specs.Named.{Named, find}
 use Rattle.machine_state.specs.declared.Machine.{Machine}
@@ -42,14 +42,7 @@ machine-values m = refl
 
 -- and as many values as there are registers are the values of the registers that have them
 pub values-machine : (l : List ℕ) → length l ≡ length machineRegisters → values (machineOf l) ≡ l
-values-machine [] e = absurd (omega arith)
-values-machine (a ∷ []) e = absurd (omega arith)
-values-machine (a ∷ b ∷ []) e = absurd (omega arith)
-values-machine (a ∷ b ∷ c ∷ []) e = absurd (omega arith)
-values-machine (a ∷ b ∷ c ∷ d ∷ []) e = absurd (omega arith)
-values-machine (a ∷ b ∷ c ∷ d ∷ f ∷ []) e = absurd (omega arith)
-values-machine (a ∷ b ∷ c ∷ d ∷ f ∷ g ∷ []) e = refl
-values-machine (a ∷ b ∷ c ∷ d ∷ f ∷ g ∷ h ∷ more) e = absurd (omega arith)
+values-machine l e = spelled-all 6 l e
 
 -- values that a loop copies to the first places of a list, one more
 pub copied-more : (l s : List ℕ) (k : ℕ) → k < length s → set (sets l 0 (take k s)) k (getD s k 0) ≡ sets l 0 (take (k + 1) s)

@@ -1,6 +1,8 @@
 -- The parts of an instruction word: "In i: bits 0 to 2 op, 3 ib, 4 pb, 5 to 11 pa."
 -- Assumes nothing.
-use Prim.Native.Nat.{ℕ}
+use Prim.Native.Nat.{ℕ, _/_}
+use mathlib.Core.Bool.{Bool, _||_}
+use lib.Dec.{eqb}
 use Rattle.word.specs.Word.{wordBits, bits}
 
 abbrev pub op : ℕ → ℕ
@@ -18,3 +20,7 @@ ib i = flag 3 i
 
 abbrev pub pb : ℕ → ℕ
 pb i = flag 4 i
+
+-- document 02, Two: "device 03 .. 04": the words 603x and 604x
+abbrev pub isDevice : ℕ → Bool
+isDevice i = eqb (i / 8) 0o603 || eqb (i / 8) 0o604

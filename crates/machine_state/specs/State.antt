@@ -30,7 +30,7 @@ start m memory =
 abbrev pub registers : State → Machine
 registers s = record { lac = s .lac; pc = s .pc; run = s .run; enable = s .enable; request = s .request; switches = s .switches }
 
--- a state with another LAC, PC, RUN, INTERRUPT.ENABLE or memory
+-- a state with another LAC, PC, RUN, INTERRUPT.ENABLE, INTERRUPT.REQUEST or memory
 abbrev pub withLac : ℕ → State → State
 withLac x s =
     record { lac = x; pc = s .pc; run = s .run; enable = s .enable; request = s .request; switches = s .switches; memory = s .memory }
@@ -46,6 +46,10 @@ withRun x s =
 abbrev pub withEnable : ℕ → State → State
 withEnable x s =
     record { lac = s .lac; pc = s .pc; run = s .run; enable = x; request = s .request; switches = s .switches; memory = s .memory }
+
+abbrev pub withRequest : ℕ → State → State
+withRequest x s =
+    record { lac = s .lac; pc = s .pc; run = s .run; enable = s .enable; request = x; switches = s .switches; memory = s .memory }
 
 abbrev pub withMemory : List ℕ → State → State
 withMemory x s =

@@ -1,4 +1,5 @@
 pub mod Cycle
 pub mod Rising
 pub mod Run
+pub mod Devices
 pub mod Stored

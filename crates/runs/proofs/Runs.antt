@@ -59,17 +59,17 @@ module _ {A : Type 0} (goesOn : A → Bool) (step : A → A) where
   pub stopped-at-entry : (budget : ℕ) (x : A) → goesOn x ≡ false → run goesOn step budget x ≡ ended 0 x
   stopped-at-entry budget x e = run-stops budget 0 x e
 
-  -- what each step keeps, a run keeps
-  keeps-from : (P : A → Type 0) → ((x : A) → P x → P (step x)) → (budget done : ℕ) (x : A) → P x → P (from budget done x .left)
+  -- what each step that is made keeps, a run keeps
+  pub keeps-from : (P : A → Type 0) → ((x : A) → goesOn x ≡ true → P x → P (step x)) → (budget done : ℕ) (x : A) → P x → P (from budget done x .left)
   unfolding runFrom
   keeps-from P kept zero done x p = p
   keeps-from P kept (suc budget) done x p =
       by-test (goesOn x)
-      (λ e. subst (λ (r : Ended A). P (r .left)) (sym (run-step budget done x e)) (keeps-from P kept budget (suc done) (step x) (kept x p)))
+      (λ e. subst (λ (r : Ended A). P (r .left)) (sym (run-step budget done x e)) (keeps-from P kept budget (suc done) (step x) (kept x e p)))
       (λ e. subst (λ (r : Ended A). P (r .left)) (sym (run-stops (suc budget) done x e)) p)
 
   pub run-keeps : (P : A → Type 0) → ((x : A) → P x → P (step x)) → (budget : ℕ) (x : A) → P x → P (run goesOn step budget x .left)
-  run-keeps P kept budget x p = keeps-from P kept budget 0 x p
+  run-keeps P kept budget x p = keeps-from P (λ y e q. kept y q) budget 0 x p
 
   -- counting from `done` only adds to the steps
   counted : (budget more done : ℕ) (x : A) → from budget (more + done) x ≡ following more (from budget done x)

@@ -1,10 +1,10 @@
--- The shipped descriptions' texts, line by line, in blocks that several of them may have: description/pdp8.rows is the plain machine's. What a text says of the machine
+-- The shipped descriptions' texts, line by line, in blocks that several of them may have: description/pdp8.rows is the plain machine's, description/pdp8-devices.rows its twin's with devices. What a text says of the machine
 -- need not be believed: that its cycles do the machine's steps is proved.
 -- Assumes nothing.
 use mathlib.Core.List.{List, _++_}
 use Prim.Native.Nat.{ℕ}
 use Rattle.characters.specs.Ascii.{ascii}
-use Rattle.shipped_rows.specs.Variant.{Variant, plain}
+use Rattle.shipped_rows.specs.Variant.{Variant, plain, devices}
 
 -- the header, and the machine registers that every variant has
 abbrev machineLines : List ℕ
@@ -16,6 +16,15 @@ machineLines =
     ++ ascii "reg\tINTERRUPT.ENABLE\t1\n"
     ++ ascii "reg\tINTERRUPT.REQUEST\t1\n"
     ++ ascii "reg\tSWITCHES\t12\n"
+
+-- document 02, Two: "A shipped twin has them"
+abbrev deviceLines : List ℕ
+deviceLines =
+    ascii "reg\tKEY.BYTE\t8\n"
+    ++ ascii "reg\tKEYBOARD.FLAG\t1\n"
+    ++ ascii "reg\tPRINTER.FLAG\t1\n"
+    ++ ascii "reg\tPRINT.BYTE\t8\n"
+    ++ ascii "reg\tPRINT.MARK\t1\n"
 
 -- "A shipped description's registers that the emulator lacks are its working registers"
 abbrev workingLines : List ℕ
@@ -82,6 +91,17 @@ switchLines =
     ++ ascii "go\ti Eql #6001\trestart\n"
     ++ ascii "do\ti Eql #6002\tINTERRUPT.ENABLE\t0\n"
 
+-- the words of keyboard and teleprinter: KSF and TSF; KCC and KRB; KRS and KRB; TCF and TLS; TPC and TLS
+abbrev keyboardLines : List ℕ
+keyboardLines =
+    ascii "do\ti Eql #6031 And KEYBOARD.FLAG Or i Eql #6041 And PRINTER.FLAG\tPC\tPC + 1\n"
+    ++ ascii "do\ti Eql #6032 Or i Eql #6036\tLAC<1:12>\t0\n"
+    ++ ascii "do\ti Eql #6032 Or i Eql #6036\tKEYBOARD.FLAG\t0\n"
+    ++ ascii "do\ti Eql #6034 Or i Eql #6036\tLAC<5:12>\tLAC<5:12> Or KEY.BYTE\n"
+    ++ ascii "do\ti Eql #6042 Or i Eql #6046\tPRINTER.FLAG\t0\n"
+    ++ ascii "do\ti Eql #6044 Or i Eql #6046\tPRINT.BYTE\tLAC<5:12>\n"
+    ++ ascii "do\ti Eql #6044 Or i Eql #6046\tPRINT.MARK\t1\n"
+
 -- the end of op 6, and op 7
 abbrev operateLines : List ℕ
 operateLines =
@@ -125,6 +145,10 @@ operateLines =
     ++ ascii "do\ti<4>\tLAC<1:12>\t0\n"
     ++ ascii "at\tinterrupt\n"
 
+-- "INTERRUPT.REQUEST becomes the or of the two flags at each interrupt test."
+abbrev requestLines : List ℕ
+requestLines = ascii "do\t1\tINTERRUPT.REQUEST\tKEYBOARD.FLAG Or PRINTER.FLAG\n"
+
 -- the interrupt test
 abbrev interruptLines : List ℕ
 interruptLines =
@@ -137,3 +161,6 @@ interruptLines =
 
 unfoldable pub shippedText : Variant → List ℕ
 shippedText plain = machineLines ++ workingLines ++ fetchLines ++ addressLines ++ referenceLines ++ switchLines ++ operateLines ++ interruptLines
+shippedText devices =
+    machineLines ++ deviceLines ++ workingLines ++ fetchLines ++ addressLines ++ referenceLines ++ switchLines ++ keyboardLines ++ operateLines ++ requestLines
+    ++ interruptLines

@@ -1,9 +1,10 @@
--- Document 01's numbers and values for the answers that both engines give: state refusals and the reasons of a run's end.
+-- The papers' numbers and values for the answers that both engines give: state refusals and the reasons of a run's end.
 -- Assumes nothing.
 use Prim.Native.Nat.{ℕ}
+use mathlib.Core.Bool.{Bool, true}
 use Rattle.word.specs.Choice.{on, pick}
 use Rattle.state.specs.declared.Reason.{Reason}
-use Rattle.state.specs.declared.Reason.the-variants.{Halted, Spent}
+use Rattle.state.specs.declared.Reason.the-variants.{Halted, Spent, Paper}
 use Rattle.state.specs.declared.Refusal.{Refusal}
 use Rattle.state.specs.declared.Refusal.the-variants.{MemoryLength, Word, Register, Budget, RowList}
 use Rattle.state.specs.declared.Verdict.{Verdict}
@@ -26,14 +27,19 @@ placeOf (Register place) = place
 placeOf Budget = 0
 placeOf RowList = 0
 
--- "as its reason, `halted` if RUN is 0 at the end, else `spent`"
+-- document 02, Two: "the reason is `halted` if RUN is 0, else `paper`, else `spent`", by RUN and by whether the output has a place left
+abbrev pub reasonWith : ℕ → Bool → Reason
+reasonWith run place = pick (on run) (pick place Spent Paper) Halted
+
+-- without devices: "as its reason, `halted` if RUN is 0 at the end, else `spent`"
 abbrev pub reasonOf : ℕ → Reason
-reasonOf run = pick (on run) Spent Halted
+reasonOf run = reasonWith run true
 
 -- the number of a reason in the C interface; 0 is kept for a refusal
 abbrev pub reasonNumber : Reason → ℕ
 reasonNumber Halted = 1
 reasonNumber Spent = 2
+reasonNumber Paper = 3
 
 -- "in this order": the first refusal counts
 abbrev pub orElse : Verdict → Verdict → Verdict

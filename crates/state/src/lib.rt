@@ -5,7 +5,7 @@ ghost use mathlib.Core.Path.{_≡_};
 ghost use lib.ListN.{getD};
 ghost use Rattle.word.specs.Word.{widest, fits};
 ghost use Rattle.state.specs.Checks.{firstTooWide, checkMemory, checkRegisters, checkBudget, checkState, checkRowList};
-ghost use Rattle.state.specs.Refusals.{reasonOf, orElse};
+ghost use Rattle.state.specs.Refusals.{reasonWith, reasonOf, orElse};
 
 pub const MEMORY_WORDS: usize = 4096;
 
@@ -15,10 +15,11 @@ pub const BUDGET_LIMIT: u64 = 1_000_000;
 
 pub const ROW_PLACES: usize = 128;
 
-// Why a run ended: RUN is 0, or the budget is done.
+// Why a run ended: RUN is 0, or the budget is done, or the output has no place left.
 pub enum Reason {
     Halted,
     Spent,
+    Paper,
 }
 
 // Why a state is turned down, with the lowest offending place where one applies.
@@ -36,15 +37,25 @@ pub enum Verdict {
     Unfit(Refusal),
 }
 
-// Why a run ended, by RUN at its end.
+// Why a run ended, by RUN at its end, and by whether the output had a place left.
+pub fn reason_with(run: u64, place: bool) -> Reason
+    ensures { λ r. ⌜ r ≡ reasonWith run place ⌝ }
+{
+    if run == 0 {
+        return Reason::Halted;
+    }
+    if place {
+        Reason::Spent
+    } else {
+        Reason::Paper
+    }
+}
+
+// Why a run without devices ended.
 pub fn reason_of(run: u64) -> Reason
     ensures { λ r. ⌜ r ≡ reasonOf run ⌝ }
 {
-    if run != 0 {
-        Reason::Spent
-    } else {
-        Reason::Halted
-    }
+    reason_with(run, true)
 }
 
 // The bits that a place may hold: its width, or what every place past the widths has.

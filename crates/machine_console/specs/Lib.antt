@@ -1,0 +1,3 @@
+pub mod Instructions
+pub mod Console
+pub mod Rounds

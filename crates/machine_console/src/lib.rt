@@ -1,0 +1,1 @@
+// The machine with keyboard and teleprinter.

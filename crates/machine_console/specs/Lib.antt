@@ -1,3 +1,4 @@
 pub mod Instructions
 pub mod Console
 pub mod Rounds
+pub mod Ran

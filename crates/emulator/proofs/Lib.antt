@@ -1,1 +1,2 @@
 pub mod Starts
+mod Ends

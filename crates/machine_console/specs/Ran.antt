@@ -17,6 +17,7 @@ use Rattle.machine_console.specs.Console.{console, run}
 pub record Ran (s : State) (c : Devices) (budget : ℕ) (input output memory after : List ℕ) (r : SessionEnd) : Type 0 where
   pub same : ended (r .steps) (session (console (at (r .processor) memory) (r .devices)) (r .read) (r .printed) input after)
       ≡ run (length output) budget (opened (console s c) input)
+  pub size : length after ≡ length output
   pub buffer : after ≡ written (take (r .printed) after) output
   pub read : r .read ≤ length input
   pub printed : r .printed ≤ length output

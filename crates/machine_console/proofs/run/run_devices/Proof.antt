@@ -83,7 +83,7 @@ same-length-2 c = c .before .before .loop .inv .0 .size
 returns : tie.Need-returns Inv-loop μ-loop
 returns c =
     let k = c .before .before .loop .inv .0 in
-    record { same = loop-ends k (c .before .goes-on .ensures) (c .if1 .left); buffer = k .buffer; read = k .most-read; printed = k .most-printed }
+    record { same = loop-ends k (c .before .goes-on .ensures) (c .if1 .left); size = k .size; buffer = k .buffer; read = k .most-read; printed = k .most-printed }
 
 pub run-devices-spec : {M : Type 1} → statement M
 run-devices-spec =

@@ -10,10 +10,10 @@ use lib.Dec.{eqb, ltb}
 use lib.ListN.{length, drop, take, getD, set, drop-of-length-le, length-append, length-drop}
 use lib.Seq.{drop-cons, take-append-seam, drop-drop, set-append-seam, append-snoc, length-take-le}
 use borrow.Author.Tests.{ltb-true, ltb-false, ne-eqb}
-use Rattle.laws.proofs.Tests.{by-test}
+use Rattle.laws.proofs.Tests.{by-test, by-case}
 use Rattle.laws.proofs.Joined.{and-left, and-right}
 use Rattle.word.specs.Choice.{on, pick}
-use Rattle.word.proofs.Choice.{case-true, case-false}
+use Rattle.word.proofs.Choice.{case-true, case-false, pick-either}
 use Rattle.devices.specs.declared.Devices.{Devices}
 use Rattle.devices.specs.Devices.{received, arrived, unreadAfter, risen, begun, written}
 use Rattle.devices.specs.Session.{Exchange, exchanged}
@@ -38,7 +38,7 @@ unfolding arrived
 arrived-at c input read = ap (pick (on (c .keyboard)) c) (received-at c input read)
 
 -- the bytes read after a start
-abbrev readAfter : Devices → List ℕ → ℕ → ℕ
+abbrev pub readAfter : Devices → List ℕ → ℕ → ℕ
 readAfter c input read = pick (on (c .keyboard)) read (pick (ltb read (length input)) (read + 1) read)
 
 rest-at : (input : List ℕ) (read : ℕ) → drop 1 (drop read input) ≡ drop (pick (ltb read (length input)) (read + 1) read) input
@@ -48,7 +48,7 @@ rest-at input read =
     (λ t. let none = drop-of-length-le input (ltb-false read (length input) t) in
     ap (drop 1) none ∙ sym none ∙ ap (λ (n : ℕ). drop n input) (sym (case-false (ltb read (length input)) (read + 1) read t)))
 
-unread-at : (c : Devices) (input : List ℕ) (read : ℕ) → unreadAfter c (drop read input) ≡ drop (readAfter c input read) input
+pub unread-at : (c : Devices) (input : List ℕ) (read : ℕ) → unreadAfter c (drop read input) ≡ drop (readAfter c input read) input
 unfolding unreadAfter
 unread-at c input read = go (on (c .keyboard))
   where
@@ -56,6 +56,11 @@ unread-at c input read = go (on (c .keyboard))
         → pick b (drop read input) (drop 1 (drop read input)) ≡ drop (pick b read (pick (ltb read (length input)) (read + 1) read)) input
     go true = refl
     go false = rest-at input read
+
+pub read-within : (c : Devices) (input : List ℕ) (read : ℕ) → read ≤ length input → readAfter c input read ≤ length input
+read-within c input read h =
+    pick-either (λ (n : ℕ). n ≤ length input) (on (c .keyboard)) h
+    (by-case (λ (n : ℕ). n ≤ length input) (ltb read (length input)) (λ t. omega (arith, ltb-true read (length input) t)) (λ t. h))
 
 -- ---- the start, as the code makes it
 

@@ -21,6 +21,7 @@ use Rattle.machine_state.specs.Registers.{widths, values}
 use Rattle.machine_state.proofs.Places.{by-register}
 use Rattle.devices.specs.declared.Devices.{Devices}
 use Rattle.devices.specs.Devices.{deviceWidths, deviceValues, DevicesFit}
+use Rattle.devices.proofs.Starts.{fit-narrow}
 
 -- ---- no register is wider than 16 bits
 
@@ -71,3 +72,14 @@ checked-fit m c memory budget e =
       record { lac = fit 0; pc = fit 1; run = fit 2; enable = fit 3; request = fit 4; switches = fit 5; memory = sound .0 },
       record { key = fit 6; keyboard = fit 7; printer = fit 8; print = fit 9; mark = fit 10 },
     )
+
+pub fit-checked : (m : Machine) (c : Devices) (memory : List ℕ) (budget : ℕ) → Good (start m memory) → DevicesFit c → budget ≤ budgetLimit
+    → checkState (widths ++ deviceWidths) (values m ++ deviceValues c) memory budget ≡ Fit
+fit-checked m c memory budget g f h =
+    sound-state (widths ++ deviceWidths) (values m ++ deviceValues c) memory budget (g .memory)
+    (record {
+      narrow =
+          by-register (λ (k : ℕ). getD (values m ++ deviceValues c) k 0 < 2 ^ getD (widths ++ deviceWidths) k 0) (g .lac) (g .pc) (g .run) (g .enable) (g .request)
+          (g .switches) (fit-narrow f);
+    })
+    h

@@ -5,3 +5,4 @@ pub mod Turned
 mod Words
 mod Works
 mod Kept
+pub mod Marked

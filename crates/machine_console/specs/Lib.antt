@@ -2,3 +2,4 @@ pub mod Instructions
 pub mod Console
 pub mod Rounds
 pub mod Ran
+pub mod Marked

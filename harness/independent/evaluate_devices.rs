@@ -6,7 +6,7 @@ use crate::emulate_devices::reason;
 use crate::evaluate::{ready, run};
 use crate::machine::Memory;
 use crate::rows::{cycle, Registers};
-use crate::watch::{Event, Unwatched, Watch};
+use crate::watch::{Unwatched, Watch};
 
 /// The places of the five registers; none if one is lacking in name or width.
 pub fn places(description: &Description) -> Option<[usize; 5]> {
@@ -69,7 +69,6 @@ fn run_devices<W: Watch>(
         steps += 1;
         devices_at(places, registers).end(lines, watch);
     }
-    watch.saw(Event::CyclesWithDevices(steps));
     (steps, reason(registers[description.run], lines.has_room()), acted)
 }
 

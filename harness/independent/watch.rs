@@ -29,8 +29,6 @@ pub enum Event {
     InterruptedBy(bool, bool),
     /// A step without an interrupt test left INTERRUPT.REQUEST other than the flags.
     RequestStays,
-    /// A description with devices ran so many cycles.
-    CyclesWithDevices(u64),
 }
 
 pub trait Watch {

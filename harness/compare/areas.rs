@@ -117,7 +117,9 @@ impl Maker {
             "emulate-state" => vec![bad_emulation(r)],
             "limits" => {
                 let limit = &self.limits[case as usize];
-                vec![Case::Known(limit.text.clone(), limit.answer), Case::Evaluate(with_state(r, limit.text.clone()))]
+                let start = with_state(r, limit.text.clone());
+                let with_devices = DeviceEvaluateStart { start: start.clone(), input: vec![9], output: vec![7; 3] };
+                vec![Case::Known(limit.text.clone(), limit.answer), Case::Evaluate(start), Case::EvaluateDevices(with_devices)]
             }
             "edges" => vec![self.edges[case as usize].case.clone()],
             "words" => vec![Case::Emulate(images::one_word(r, (case % 4096) as u16))],

@@ -44,14 +44,24 @@ impl Devices {
         [self.key_byte, self.keyboard_flag, self.printer_flag, self.print_byte, self.print_mark]
     }
 
-    /// The start of a step: a byte arrives where the flag is 0, and the printer flag rises where a print is remembered.
+    /// The start of a step.
     pub fn begin<W: Watch>(&mut self, lines: &mut Lines, watch: &mut W) {
+        self.arrive(lines, watch);
+        self.rise(watch);
+    }
+
+    /// "The next input byte arrives and raises the keyboard flag at the start of a step that finds it 0."
+    pub fn arrive<W: Watch>(&mut self, lines: &mut Lines, watch: &mut W) {
         if self.keyboard_flag == 0 && lines.read < lines.input.len() {
             watch.saw(Event::Arrived);
             self.key_byte = u16::from(lines.input[lines.read]);
             self.keyboard_flag = 1;
             lines.read += 1;
         }
+    }
+
+    /// "The printer flag rises at the start of the step after a print, which a print mark remembers until then."
+    pub fn rise<W: Watch>(&mut self, watch: &mut W) {
         if self.print_mark == 1 {
             watch.saw(Event::Risen);
             self.printer_flag = 1;

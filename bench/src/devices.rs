@@ -16,11 +16,13 @@ fn program_rates(bench: &Bench, program: &Program) -> [f64; 6] {
         rates[0].push(library);
         rates[1].push(emulator_rate(entries::emulate, program, emulated, CALL).0);
         rates[2].push(rust);
-        rates[3].push(twin_rate(entries::evaluate_devices, &bench.twin, program, evaluated, CALL).0);
+        let (library, end) = twin_rate(entries::evaluate_devices, &bench.twin, program, evaluated, CALL);
+        let (rust, rust_end) = twin_rate(rival::evaluate_devices, &bench.twin, program, evaluated, CALL);
+        must_agree(program.name, end == rust_end);
+        rates[3].push(library);
         rates[4].push(evaluator_rate(entries::evaluate, &bench.description, program, evaluated, CALL).0);
+        rates[5].push(rust);
     }
-    // a walk over trees: once is enough
-    rates[5].push(twin_rate(rival::evaluate_devices, &bench.twin, program, 1, CALL / 10).0);
     rates.map(|all| best(&all))
 }
 
@@ -31,8 +33,9 @@ pub fn with_devices(bench: &Bench) {
     for (name, r) in &all {
         println!("| {} | {} | {} | {} | {} | {} |", name, millions(r[0]), millions(r[1]), millions(r[2]), ratio(r[0], r[1]), ratio(r[0], r[2]));
     }
-    println!("\n| evaluator with devices, million cycles a second | library | without devices | Rust, over trees | with : without | cycles : library's own steps |\n|---|---|---|---|---|---|");
+    println!("\n| evaluator with devices, million cycles a second | library | without devices | Rust | with : without | library : Rust | cycles : library's own steps |\n|---|---|---|---|---|---|---|");
     for (name, r) in &all {
-        println!("| {} | {} | {} | {} | {} | 1/{:.1} |", name, millions(r[3]), millions(r[4]), millions(r[5]), ratio(r[3], r[4]), r[0] / r[3]);
+        let (with_without, beside_rust) = (ratio(r[3], r[4]), ratio(r[3], r[5]));
+        println!("| {} | {} | {} | {} | {} | {} | 1/{:.1} |", name, millions(r[3]), millions(r[4]), millions(r[5]), with_without, beside_rust, r[0] / r[3]);
     }
 }

@@ -4,6 +4,11 @@ use crate::device_starts::{DeviceEvaluateStart, DeviceStart};
 use crate::entries::Guarded;
 use crate::library::{guavachisel_emulate_devices, guavachisel_evaluate_devices, told_devices, OUTCOME_PLACES};
 
+/// NULL for no input, every other time.
+fn input_pointer(input: &mut Guarded<u8>, bytes: usize, budget: u64) -> *const u8 {
+    if bytes == 0 && budget % 2 == 1 { std::ptr::null() } else { input.pointer() }
+}
+
 /// Refusal, steps or the refusal's place, reason, rows, bytes that arrived, bytes printed. What was lent is as the call left it.
 pub fn emulate(lent: &mut DeviceStart) -> [u64; 6] {
     let start = &mut lent.start;
@@ -20,7 +25,7 @@ pub fn emulate(lent: &mut DeviceStart) -> [u64; 6] {
             values.pointer(),
             devices.pointer(),
             start.budget,
-            input.pointer(),
+            input_pointer(&mut input, lent.input.len(), start.budget),
             lent.input.len(),
             output.pointer(),
             lent.output.len(),
@@ -57,7 +62,7 @@ pub fn evaluate(lent: &mut DeviceEvaluateStart) -> [u64; 6] {
             start.budget,
             list.pointer(),
             start.rows.len(),
-            input.pointer(),
+            input_pointer(&mut input, lent.input.len(), start.budget),
             lent.input.len(),
             output.pointer(),
             lent.output.len(),

@@ -16,6 +16,11 @@ fn outcome_devices([refusal, said, reason, rows, read, printed]: [u64; 6]) -> [u
     [refusal, place, steps, reason, rows, read, printed, 0, 0]
 }
 
+/// The input, which may be NULL where it has no bytes.
+unsafe fn input_of<'a>(input: *const u8, bytes: usize) -> &'a [u8] {
+    if bytes == 0 { &[] } else { from_raw_parts(input, bytes) }
+}
+
 #[no_mangle]
 pub unsafe extern "C" fn guavachisel_emulate(memory: *mut u16, words: usize, registers: &mut [u16; 6], budget: u64, outcome: &mut [u64; 9]) {
     let [refusal, said, reason] = independent::emulate(from_raw_parts_mut(memory, words), registers, budget);
@@ -59,7 +64,7 @@ pub unsafe extern "C" fn guavachisel_emulate_devices(
     room: usize,
     outcome: &mut [u64; 9],
 ) {
-    let (memory, input, output) = (from_raw_parts_mut(memory, words), from_raw_parts(input, bytes), from_raw_parts_mut(output, room));
+    let (memory, input, output) = (from_raw_parts_mut(memory, words), input_of(input, bytes), from_raw_parts_mut(output, room));
     *outcome = outcome_devices(independent::emulate_devices(memory, machine, devices, budget, input, output));
 }
 
@@ -80,7 +85,7 @@ pub unsafe extern "C" fn guavachisel_evaluate_devices(
     outcome: &mut [u64; 9],
 ) {
     let (text, memory, rows) = (from_raw_parts(text, bytes), from_raw_parts_mut(memory, words), from_raw_parts_mut(rows, places));
-    let (input, output) = (from_raw_parts(input, input_bytes), from_raw_parts_mut(output, room));
+    let (input, output) = (input_of(input, input_bytes), from_raw_parts_mut(output, room));
     *outcome = outcome_devices(independent::evaluate_devices(text, memory, registers, budget, rows, input, output));
 }
 

@@ -22,7 +22,7 @@ use timing::best;
 /// The most steps or cycles that one call makes.
 const CALL: u64 = 1_000_000;
 
-struct Bench {
+pub struct Bench {
     simh: Option<Simh>,
     description: Vec<u8>,
     /// The description with devices.

@@ -68,9 +68,9 @@ fn end(log: &[u8]) -> Option<End> {
     let text = String::from_utf8_lossy(&log[stopped.unwrap_or(0)..]);
     let lines = text.lines().filter_map(|line| line.split_once(":\t"));
     let values: Vec<u16> = lines.filter_map(|(_, value)| u16::from_str_radix(value.trim(), 8).ok()).collect();
-    let [pc, link, ac, enable, key_byte, keyboard_flag, printer_flag, print_byte, ..] = values[..] else { return None };
     if values.len() != VALUES {
         return None;
     }
-    Some(End { pc, link, ac, enable, devices: [key_byte, keyboard_flag, printer_flag, print_byte], memory: values[8..].to_vec(), printed })
+    let devices = [values[4], values[5], values[6], values[7]];
+    Some(End { pc: values[0], link: values[1], ac: values[2], enable: values[3], devices, memory: values[8..].to_vec(), printed })
 }

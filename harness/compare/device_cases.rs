@@ -68,8 +68,9 @@ pub fn evaluated(start: &DeviceEvaluateStart, coverage: &mut Coverage) -> Option
 
 /// The description with devices: evaluator and emulator, each beside the Rust one, then the library's two beside each other.
 pub fn twin(start: &DeviceEvaluateStart, coverage: &mut Coverage) -> Option<String> {
-    let Some(places) = description(&start.start.text).ok().and_then(|d| places(&d)) else {
-        return Some("the description with devices lacks one of the five registers".to_string());
+    let places = match description(&start.start.text).ok().and_then(|d| places(&d)) {
+        Some(places) => places,
+        None => return Some("the description with devices lacks one of the five registers".to_string()),
     };
     let machine = of_machine(start, places);
     if let Some(found) = evaluated(start, coverage).or_else(|| emulated(&machine, coverage)) {

@@ -118,9 +118,13 @@ impl Coverage {
 
     /// Whether an accepted description has devices, and what it lacks.
     pub fn description_with_devices(&mut self, text: &[u8], input: usize, room: usize) {
-        let Ok(description) = description(text) else { return };
+        let description = match description(text) {
+            Ok(description) => description,
+            Err(_) => return,
+        };
         match places(&description) {
-            Some(found) => self.count(if found.is_sorted() { "five registers in order" } else { "five registers in another order" }),
+            Some(found) if found.windows(2).all(|pair| pair[0] < pair[1]) => self.count("five registers in order"),
+            Some(_) => self.count("five registers in another order"),
             None if room == 0 && input > 0 => self.count("no devices, with input and without room"),
             None => {}
         }

@@ -22,7 +22,6 @@ pub fn evaluate_devices(text: &[u8], memory: &mut [u16], registers: &mut Registe
     evaluate_devices_watched(text, memory, registers, budget, rows, input, output, &mut Unwatched)
 }
 
-#[allow(clippy::too_many_arguments)]
 pub fn evaluate_devices_watched<W: Watch>(
     text: &[u8],
     memory: &mut [u16],

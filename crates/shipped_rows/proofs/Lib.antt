@@ -6,6 +6,9 @@ mod Labels
 mod Ends
 mod Working
 mod Bits
+mod DeviceWords
+pub mod Machines
+mod Devices
 mod Interrupts
 mod References
 mod Addresses

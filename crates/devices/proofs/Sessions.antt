@@ -4,6 +4,7 @@ use mathlib.Core.Path.{_≡_, sym, ap, ap₂, subst}
 use mathlib.Core.Bool.{Bool, _&&_}
 use mathlib.Core.List.{List}
 use Prim.Native.Nat.{ℕ, _-_}
+use native.Mathlib.Omega.{arith}
 use lib.Dec.{ltb}
 use lib.ListN.{length}
 use Rattle.runs.specs.Run.{Ended}
@@ -11,7 +12,7 @@ use Rattle.runs.proofs.Alike.{Alike}
 use Rattle.runs.proofs.Alike as runs
 use Rattle.devices.specs.declared.Devices.{Devices}
 use Rattle.devices.specs.Devices.{begun, unreadAfter, printedAfter, written}
-use Rattle.devices.specs.Session.{Session, Attached, turn, placeLeft, goesOn, run, exchanged}
+use Rattle.devices.specs.Session.{Session, Attached, turn, placeLeft, goesOn, opened, run, exchanged, untouched}
 
 -- the engines are related; unread input and printed bytes are the same
 pub record Paired {A B : Type 0} (R : A → B → Type 0) (x : Session A) (y : Session B) : Type 0 where
@@ -26,6 +27,14 @@ module _ {A B : Type 0} {R : A → B → Type 0} {x : Session A} {y : Session B}
   pub same-exchange : (input output : List ℕ) → exchanged input output y ≡ exchanged input output x
   same-exchange input output =
       ap₂ (λ (u l : List ℕ). record { read = length input - length u; printed = length l; output = written l output }) (p .unread) (p .printed)
+
+-- before the first step nothing has been read or printed
+pub nothing-exchanged : {A : Type 0} (x : A) (input output : List ℕ) → exchanged input output (opened x input) ≡ untouched output
+unfolding written
+nothing-exchanged x input output = ap (λ (n : ℕ). record { read = n; printed = 0; output = output }) (none (length input))
+  where
+    none : (n : ℕ) → n - n ≡ 0
+    none n = omega arith
 
 module _ {A B : Type 0} (R : A → B → Type 0) (at : Attached A) (at′ : Attached B) (running : A → Bool) (running′ : B → Bool) (step : A → A) (step′ : B → B)
     (alike : (a : A) (b : B) → R a b → running′ b ≡ running a) (same : (a : A) (b : B) → R a b → at′ .get b ≡ at .get a)

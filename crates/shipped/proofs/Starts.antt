@@ -31,7 +31,7 @@ use Rattle.shipped.specs.Claim.{machinePart, Start}
 use Rattle.shipped_rows.proofs.Tree.{workingRegisters, workAt, tree}
 use Rattle.shipped_rows.proofs.Accepted.{shipped-is}
 use Rattle.shipped_rows.proofs.Places.{Work, Fit, workValues, inPlaces, as-many, work-read}
-use Rattle.shipped_rows.proofs.Machines.{Flags, no-flags, Sound}
+use Rattle.shipped_rows.proofs.Machines.{FlagsOf, Sound}
 
 abbrev width : Named → ℕ
 width r = r .number
@@ -104,8 +104,8 @@ first-fit (r ∷ names) later (x ∷ values) more e p =
     at others (suc k) = others .narrow k
 
 -- flags that fit are bits
-fitting-flags : (v : Variant) (m : Machine) (c : Devices) (later : List ℕ) → Fitting (widthsOf (tree v)) (valuesOf v m c ++ later) → Flags v c
-fitting-flags plain m c later f = no-flags c
+fitting-flags : (v : Variant) (m : Machine) (c : Devices) (later : List ℕ) → Fitting (widthsOf (tree v)) (valuesOf v m c ++ later) → FlagsOf v c
+fitting-flags plain m c later f = tt
 fitting-flags devices m c later f = record { keyboard = f .narrow 7; printer = f .narrow 8 }
 
 module _ {v : Variant} {m : Machine} {c : Devices} {registers memory : List ℕ} {budget : ℕ} {list : List ℕ} (s : Start v m c registers memory budget list) where

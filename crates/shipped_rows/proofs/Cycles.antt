@@ -29,14 +29,15 @@ use Rattle.shipped_rows.proofs.Unnoted.{cycle-unnoted}
 use Rattle.shipped_rows.proofs.Ends.{Ends, acts, jumps, branches, Tested}
 use Rattle.shipped_rows.proofs.Working.{op-is}
 use Rattle.shipped_rows.proofs.DeviceWords.{device-six}
-use Rattle.shipped_rows.proofs.Machines.{testOf, forDevices, stepOf, Flags, after-flags, Sound}
+use Rattle.shipped_rows.proofs.DeviceKeeps.{after-flags}
+use Rattle.shipped_rows.proofs.Machines.{testOf, forDevices, stepOf, FlagsOf, Sound}
 use Rattle.shipped_rows.proofs.Interrupts.{rows-test, ends-iot, ends-device}
 use Rattle.shipped_rows.proofs.Addresses.{ends-address}
 use Rattle.shipped_rows.proofs.Operates.{ends-opr}
 
 -- the word in i, which is no word of devices, by its op
 module _ (v : Variant) {c : Devices} {test : State → State} (tested : Tested v c test) {o : State} {w : Work} (g : Good o) (f : Fit w)
-    (h : Flags v c) (none : forDevices v (w .i) ≡ false) where
+    (h : FlagsOf v c) (none : forDevices v (w .i) ≡ false) where
   ends-decode : Ends v c (rows·decode v) (inPlaces v c o w) (testedIf test (makesTest (w .i)) (execute (w .i) (w .last) o))
   ends-decode =
       subst (Ends v c (rows·decode v) (inPlaces v c o w)) (sym (tested-by-op test (w .i) (w .last) o))

@@ -21,13 +21,14 @@ use Rattle.shipped_rows.proofs.Places.{Work, inPlaces}
 use Rattle.shipped_rows.proofs.Ends.{Ends, seen, moved}
 use Rattle.shipped_rows.proofs.Bits.{Flag, of-test, of-bit, flag-and, flag-or, on-flag}
 use Rattle.shipped_rows.proofs.DeviceWords.{devices-stay, state-stays, prints-found}
-use Rattle.shipped_rows.proofs.Machines.{Flags, forDevices}
+use Rattle.shipped_rows.proofs.DeviceKeeps.{Flags}
+use Rattle.shipped_rows.proofs.Machines.{forDevices, FlagsOf}
 
 -- a word that is one of two, as the rows test it
 one-of : (i m n : ℕ) → on (bitOr (bit (eqb i m)) (bit (eqb i n))) ≡ (eqb i m || eqb i n)
 one-of i m n = on-flag (flag-or (of-test (eqb i m)) (of-test (eqb i n)))
 
-module _ (c : Devices) (o : State) (w : Work) (f : Flags devices c) where
+module _ (c : Devices) (o : State) (w : Work) (f : Flags c) where
   abbrev i : ℕ
   i = w .i
 
@@ -61,10 +62,11 @@ module _ (c : Devices) (o : State) (w : Work) (f : Flags devices c) where
       (flag-and (of-test (eqb i 0o6031)) (of-bit (c .keyboard) (f .keyboard)))
       (flag-and (of-test (eqb i 0o6041)) (of-bit (c .printer) (f .printer))))
 
-  pub words : {e : Devices} {p : State} {rs : List Row} → Ends devices e rs (inPlaces devices (devicesAfter i (o .lac) c) (stateAfter i c o) w) p
+  -- what is left to do after a word of the devices is left to do after their rows
+  pub ends-words : {e : Devices} {p : State} {rs : List Row} → Ends devices e rs (inPlaces devices (devicesAfter i (o .lac) c) (stateAfter i c o) w) p
       → Ends devices e (rows·devices devices rs) (inPlaces devices c o w) p
   unfolding stateAfter devicesAfter lacAfter
-  words r =
+  ends-words r =
       moved (λ (x : ℕ). inPlaces devices c (withPc x o) w) (o .pc) (next (o .pc)) (skipsOnFlag i c) skips refl
       (moved (λ (x : ℕ). inPlaces devices c (withLac x counted) w) (o .lac) (withAc (o .lac) 0) (kcc i) (one-of i 0o6032 0o6036) refl
       (moved (λ (x : ℕ). inPlaces devices (with x (c .printer) (c .print) (c .mark)) (withLac cleared counted) w) (c .keyboard) 0 (kcc i) (one-of i 0o6032 0o6036) refl
@@ -76,10 +78,10 @@ module _ (c : Devices) (o : State) (w : Work) (f : Flags devices c) where
       (seen (ap (λ (x : ℕ). left printer x (c .mark)) (prints-found i c (o .lac) (c .print)))
       (moved (λ (x : ℕ). left printer (pick (tpc i) (acByte (o .lac)) (c .print)) x) (c .mark) 1 (tpc i) (one-of i 0o6044 0o6046) refl r)))))))
 
--- at another word they do nothing
-pub no-words : (v : Variant) (c : Devices) (o : State) (w : Work) → Flags v c → forDevices v (w .i) ≡ false → {e : Devices} {p : State} {rs : List Row}
+-- and at another word they do nothing
+pub ends-others : (v : Variant) (c : Devices) (o : State) (w : Work) → FlagsOf v c → forDevices v (w .i) ≡ false → {e : Devices} {p : State} {rs : List Row}
     → Ends v e rs (inPlaces v c o w) p → Ends v e (rows·devices v rs) (inPlaces v c o w) p
-no-words plain c o w f none r = r
-no-words devices c o w f none r =
-    words c o w f
+ends-others plain c o w f none r = r
+ends-others devices c o w f none r =
+    ends-words c o w f
     (seen (ap₂ (λ (d : Devices) (s : State). inPlaces devices d s w) (devices-stay (w .i) none (o .lac) c) (state-stays (w .i) none c o)) r)

@@ -22,8 +22,9 @@ use Rattle.shipped_rows.proofs.Ends.{Ends, past, acts, idles, jumps, st
 use Rattle.shipped_rows.proofs.Working.{i-is}
 use Rattle.shipped_rows.proofs.Bits.{of-bit, negated, on-flag}
 use Rattle.shipped_rows.proofs.DeviceWords.{device-not}
-use Rattle.shipped_rows.proofs.Machines.{testOf, forDevices, Flags, line-lt, after-good}
-use Rattle.shipped_rows.proofs.Devices.{words, no-words}
+use Rattle.shipped_rows.proofs.DeviceKeeps.{Flags, line-lt, after-flags, after-good}
+use Rattle.shipped_rows.proofs.Machines.{testOf, forDevices, FlagsOf}
+use Rattle.shipped_rows.proofs.Devices.{ends-words, ends-others}
 
 module _ (v : Variant) {c : Devices} {o : State} {w : Work} (f : Fit w) where
   -- "M[0] = PC, PC = 1, INTERRUPT.ENABLE = 0"
@@ -43,19 +44,19 @@ module _ (v : Variant) {c : Devices} {o : State} {w : Work} (f : Fit w) where
       interrupts (g .pc) (on (o .enable)) (on (o .request)) (on-flag (negated (of-bit (o .enable) (g .enable)))) (on-flag (negated (of-bit (o .request) (g .request))))
 
 -- INTERRUPT.REQUEST takes its value from the flags, where there are devices: each machine's own test is what the rows make
-tested : (v : Variant) {c : Devices} {o : State} {w : Work} → Flags v c → Good o → Fit w → Ends v c (rows·interrupt v) (inPlaces v c o w) (testOf v c o)
+ends-interrupt : (v : Variant) {c : Devices} {o : State} {w : Work} → FlagsOf v c → Good o → Fit w → Ends v c (rows·interrupt v) (inPlaces v c o w) (testOf v c o)
 unfolding lineTest
-tested plain h g f = tests plain f g
-tested devices {c} {o} {w} h g f =
+ends-interrupt plain h g f = tests plain f g
+ends-interrupt devices {c} {o} {w} h g f =
     acts (inPlaces devices c (withRequest (line c) o) w) refl (ap (λ (x : ℕ). inPlaces devices c (withRequest x o) w) (mod-eq-of-lt (line-lt h)))
     (tests devices f (request-good (line-lt h) g))
 
-pub rows-test : (v : Variant) {c : Devices} → Flags v c → Tested v c (testOf v c)
-rows-test v h = record { ends = λ o w g f. tested v h g f }
+pub rows-test : (v : Variant) {c : Devices} → FlagsOf v c → Tested v c (testOf v c)
+rows-test v h = record { ends = λ o w g f. ends-interrupt v h g f }
 
 -- op 6 by the two words that it knows without devices
 module _ (v : Variant) {c : Devices} {test : State → State} (tested : Tested v c test) {o : State} {w : Work} (g : Good o) (f : Fit w)
-    (h : Flags v c) (none : forDevices v (w .i) ≡ false) where
+    (h : FlagsOf v c) (none : forDevices v (w .i) ≡ false) where
   switches : (first second : Bool) → eqb (w .i) ion ≡ first → eqb (w .i) iof ≡ second
       → Ends v c (rows·iot v) (inPlaces v c o w) (testedIf test (not first) (pick first (withEnable 1 o) (pick second (withEnable 0 o) o)))
   switches true second p q =
@@ -65,19 +66,19 @@ module _ (v : Variant) {c : Devices} {test : State → State} (tested : Tested v
       idles (i-is v c o w ion ∙ p)
       (stays (at-the-end (rows·iof v)) (i-is v c o w ion ∙ p)
       (acts (inPlaces v c (withEnable 0 o) w) (i-is v c o w iof ∙ q) refl
-      (no-words v c (withEnable 0 o) w h none (jumps (interrupt-opr v) refl (tested .ends (withEnable 0 o) w (enable-good (lit< tt) g) f)))))
+      (ends-others v c (withEnable 0 o) w h none (jumps (interrupt-opr v) refl (tested .ends (withEnable 0 o) w (enable-good (lit< tt) g) f)))))
   switches false false p q =
       idles (i-is v c o w ion ∙ p)
       (stays (at-the-end (rows·iof v)) (i-is v c o w ion ∙ p)
       (idles (i-is v c o w iof ∙ q)
-      (no-words v c o w h none (jumps (interrupt-opr v) refl (tested .ends o w g f)))))
+      (ends-others v c o w h none (jumps (interrupt-opr v) refl (tested .ends o w g f)))))
 
   pub ends-iot : Ends v c (rows·iot v) (inPlaces v c o w) (testedIf test (not (eqb (w .i) ion)) (inputOutput (w .i) o))
   unfolding inputOutput
   ends-iot = switches (eqb (w .i) ion) (eqb (w .i) iof) refl refl
 
 -- a word of the devices, over the test of the devices that it leaves
-pub ends-device : {c : Devices} {o : State} {w : Work} {test : State → State} → isDevice (w .i) ≡ true → Good o → Fit w → Flags devices c
+pub ends-device : {c : Devices} {o : State} {w : Work} {test : State → State} → isDevice (w .i) ≡ true → Good o → Fit w → Flags c
     → Tested devices (devicesAfter (w .i) (o .lac) c) test
     → Ends devices (devicesAfter (w .i) (o .lac) c) (rows·iot devices) (inPlaces devices c o w) (test (stateAfter (w .i) c o))
 ends-device {c} {o} {w} device g f h tested =
@@ -86,5 +87,5 @@ ends-device {c} {o} {w} device g f h tested =
     idles not-ion
     (stays (at-the-end (rows·iof devices)) not-ion
     (idles (i-is devices c o w iof ∙ device-not (w .i) iof refl device)
-    (words c o w h
+    (ends-words c o w h
     (jumps (interrupt-opr devices) refl (tested .ends (stateAfter (w .i) c o) w (after-good (w .i) c g) f)))))

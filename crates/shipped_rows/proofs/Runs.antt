@@ -31,7 +31,8 @@ use Rattle.shipped_rows.specs.Variant.{Variant, plain, devices}
 use Rattle.shipped_rows.specs.Shipped.{shipped}
 use Rattle.shipped_rows.proofs.Accepted.{shipped-is}
 use Rattle.shipped_rows.proofs.Places.{Work, Fit, inPlaces}
-use Rattle.shipped_rows.proofs.Machines.{stepOf, device-step, Sound, step-sound, begun-flags}
+use Rattle.shipped_rows.proofs.DeviceKeeps.{begun-flags}
+use Rattle.shipped_rows.proofs.Machines.{stepOf, device-step, Sound, step-sound}
 use Rattle.shipped_rows.proofs.Cycles.{cycles-step}
 
 -- RUN is the machine's
@@ -53,8 +54,8 @@ pub record Beside (v : Variant) (x : Console) (c : Cycle) : Type 0 where
 pub same-run : (v : Variant) (x : Console) (c : Cycle) → Beside v x c → running (shipped v) (c .state) ≡ x .state .run
 same-run v x c b = ap (running (shipped v)) (b .is) ∙ running-in-places v x (b .work)
 
-kept : (v : Variant) (x : Console) (c : Cycle) → Beside v x c → Beside v (stepOf v x) (cycle (shipped v .rows) (c .state))
-kept v x c b =
+beside-after : (v : Variant) (x : Console) (c : Cycle) → Beside v x c → Beside v (stepOf v x) (cycle (shipped v .rows) (c .state))
+beside-after v x c b =
     let next = cycles-step v (b .sound) (b .fits) in
     record {
       work = next .0;
@@ -69,7 +70,7 @@ pub runs-alike : (c : Devices) (budget : ℕ) (o : State) (s : rows.State) → B
     → Alike (λ (a : State). Beside plain (console a c)) (steps.run budget o) (cycles.run (shipped plain) budget s)
 runs-alike c budget o s b =
     runs.runs-alike (λ (a : State). Beside plain (console a c)) steps.running step (goesOn (running (shipped plain))) (fromLast (cycle (shipped plain .rows)))
-    (λ a t r. ap on (same-run plain (console a c) t r)) (λ a t r. kept plain (console a c) t r) budget o (atEntry s) b
+    (λ a t r. ap on (same-run plain (console a c) t r)) (λ a t r. beside-after plain (console a c) t r) budget o (atEntry s) b
 
 -- ---- with devices
 
@@ -108,6 +109,6 @@ sessions-alike room budget x s input b =
     (λ a t r. ap on (same-run devices a t r))
     same-devices
     begins
-    (λ a t r. subst (λ (y : Console). Beside devices y (cycle (shipped devices .rows) (t .state))) (device-step a) (kept devices a t r))
+    (λ a t r. subst (λ (y : Console). Beside devices y (cycle (shipped devices .rows) (t .state))) (device-step a) (beside-after devices a t r))
     room budget (opened x input) (opened (atEntry s) input)
     (record { engine = b; unread = refl; printed = refl })

@@ -3,3 +3,4 @@ pub mod Tables
 pub mod TableRuns
 mod Turns
 mod Courses
+mod Begins

@@ -73,7 +73,19 @@ fn run_rows(
     rows_plan::plan_rows(code, table, count, &mut plan);
     let mut acted = [0u8; MOST_ROWS];
     let end = run::run(
-        &plan, code, table, count, place, registers, memory, budget, &mut acted, devices, places, input, output,
+        &plan,
+        code,
+        table,
+        count,
+        place,
+        registers,
+        memory,
+        budget,
+        &mut acted,
+        devices,
+        places,
+        input,
+        output,
     );
     list::put_rows(rows, &acted, end.listed);
     let reason = end.reason;
@@ -130,7 +142,18 @@ fn evaluate_lent(
                     let places = found.places;
                     let devices = lends & found.all;
                     run_rows(
-                        &code, &table, count, place, registers, memory, budget, rows, devices, places, input, output,
+                        &code,
+                        &table,
+                        count,
+                        place,
+                        registers,
+                        memory,
+                        budget,
+                        rows,
+                        devices,
+                        places,
+                        input,
+                        output,
                     )
                 }
             }
@@ -150,7 +173,16 @@ pub fn evaluate(
         ≡ evaluation (now (text .entry)) (registers .values) (now (memory .entry)) budget (now (rows .entry)) ⌝ }
 {
     let mut none = [0u8; 1];
-    let r = evaluate_lent(text, memory, registers, budget, rows, false, &[0; 0], &mut none);
+    let r = evaluate_lent(
+        text,
+        memory,
+        registers,
+        budget,
+        rows,
+        false,
+        &[0; 0],
+        &mut none,
+    );
     r.answer
 }
 

@@ -1,5 +1,4 @@
 -- `evaluator::attached::attach`: register by register.
-use mathlib.Core.Path.{ap, _∙_}
 use Prim.Native.Nat.{_-_}
 use lib.ListN.{length}
 use Rattle.devices.specs.Devices.{deviceRegisters}

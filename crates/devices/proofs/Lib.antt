@@ -1,3 +1,5 @@
 pub mod Starts
 pub mod Held
 pub mod Split
+pub mod Sessions
+pub mod Prints

@@ -25,7 +25,7 @@ pub of-case : (o case : Outcome) (out : List ℕ) → o ≡ case → out ≡ tol
 of-case o case out e f regs mem list = f ∙ alone case regs mem list ∙ sym (ap (λ (x : Outcome). told x regs mem list) e)
 
 -- an outcome's report holds what stands beside it
-beside : (o : Outcome) (regs mem list : List ℕ)
+pub beside : (o : Outcome) (regs mem list : List ℕ)
     → (regs ≡ evaluator.outcomeOf o regs mem list .registers) × (mem ≡ evaluator.outcomeOf o regs mem list .memory) × (list ≡ evaluator.outcomeOf o regs mem list .list)
 beside (Ran why steps n) regs mem list = (refl, refl, refl)
 beside (Unread f n) regs mem list = (refl, refl, refl)

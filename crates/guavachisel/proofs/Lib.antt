@@ -1,3 +1,4 @@
 mod Answers
 mod Evaluations
 mod Rooms
+mod DeviceAnswers

@@ -27,3 +27,24 @@ refused number place =
 abbrev pub answered : ℕ → Outcome
 answered answer =
     record { refusal = 0; place = 0; steps = 0; reason = 0; rows = 0; read = 0; printed = 0; answer = answer; sum = 0 }
+
+-- the places of the bytes read and the bytes printed, and an outcome that speaks of them, too
+abbrev pub readPlace : ℕ
+readPlace = 5
+
+abbrev pub printedPlace : ℕ
+printedPlace = 6
+
+abbrev pub exchanging : Outcome → ℕ → ℕ → Outcome
+exchanging o read printed =
+    record {
+      refusal = o .refusal;
+      place = o .place;
+      steps = o .steps;
+      reason = o .reason;
+      rows = o .rows;
+      read = read;
+      printed = printed;
+      answer = o .answer;
+      sum = o .sum;
+    }

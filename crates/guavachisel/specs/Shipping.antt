@@ -14,9 +14,13 @@ use Rattle.guavachisel.specs.Outcome.{places, answered}
 abbrev pub plain : ℕ
 plain = 0
 
+-- "GUAVACHISEL_DEVICES": the number of its twin's with devices
+abbrev pub devices : ℕ
+devices = 1
+
 -- the description of a number; no text where it has none
 unfoldable pub shippedOf : ℕ → List ℕ
-shippedOf which = pick (eqb which plain) (shippedText variant.plain) []
+shippedOf which = pick (eqb which plain) (shippedText variant.plain) (pick (eqb which devices) (shippedText variant.devices) [])
 
 -- "to the first bytes of `text`, if it fits into the `room` bytes there; else, and behind it, they stay as they came"
 unfoldable pub written : List ℕ → List ℕ → List ℕ

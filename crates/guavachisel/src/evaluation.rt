@@ -12,7 +12,7 @@ ghost use Rattle.guavachisel.specs.Outcome.{places};
 ghost use Rattle.guavachisel.specs.Evaluation.{outcomeOf, Evaluated};
 
 // What came of a call, as a C caller gets it.
-fn outcome_of(end: Outcome) -> [u64; OUTCOME_PLACES]
+pub fn outcome_of(end: Outcome) -> [u64; OUTCOME_PLACES]
     ensures { λ r. ⌜ ((registers memory list : List ℕ) → r ≡ places (outcomeOf (reported end registers memory list))) ⌝ }
 {
     match end {

@@ -13,6 +13,7 @@ pub fn reason_number(reason: Reason) -> u64
     match reason {
         Reason::Halted => 1,
         Reason::Spent => 2,
+        Reason::Paper => 3,
     }
 }
 

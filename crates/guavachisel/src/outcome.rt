@@ -4,12 +4,18 @@ use state::Reason;
 use state::Refusal;
 use text_declaration::faults::Fault;
 ghost use mathlib.Core.Path.{_≡_};
+ghost use lib.ListN.{set};
 ghost use Rattle.state.specs.Refusals.{reasonNumber, numberOf, placeOf};
 ghost use Rattle.text_declaration.specs.Faults.{numberOf as faultNumber};
-ghost use Rattle.guavachisel.specs.Outcome.{places as placesOf, ran as ranOutcome, refused as refusedOutcome, answered as answeredOutcome};
+ghost use Rattle.guavachisel.specs.Outcome.{readPlace, printedPlace, places as placesOf, ran as ranOutcome, refused as refusedOutcome, answered as answeredOutcome};
 
 // The numbers that a caller's outcome has places for.
 pub const OUTCOME_PLACES: usize = 9;
+
+// The places of the bytes read and the bytes printed.
+const READ_PLACE: usize = 5;
+
+const PRINTED_PLACE: usize = 6;
 
 // An outcome, as the header names its places.
 pub struct Outcome {
@@ -92,4 +98,14 @@ pub fn answered(answer: u64) -> [u64; OUTCOME_PLACES]
     let mut o = SILENT;
     o.answer = answer;
     places(o)
+}
+
+// The outcome, with the bytes read and the bytes printed.
+pub fn exchanging(o: [u64; OUTCOME_PLACES], read: usize, printed: usize) -> [u64; OUTCOME_PLACES]
+    ensures { λ r. ⌜ r ≡ set (set o readPlace read) printedPlace printed ⌝ }
+{
+    let mut r = o;
+    r[READ_PLACE] = read as u64;
+    r[PRINTED_PLACE] = printed as u64;
+    r
 }

@@ -1,4 +1,4 @@
-// The shipped description for C callers: guavachisel_shipped of include/guavachisel.h.
+// The shipped descriptions for C callers: guavachisel_shipped of include/guavachisel.h.
 use crate::outcome;
 use crate::outcome::OUTCOME_PLACES;
 ghost use mathlib.Core.Path.{_≡_};
@@ -6,6 +6,9 @@ ghost use Rattle.guavachisel.specs.Shipping.{written, Shipped};
 
 // The number of the description of the machine without devices, in one field.
 const PLAIN: u64 = 0;
+
+// The number of the description of the machine with devices, in one field.
+const DEVICES: u64 = 1;
 
 // Writes a text into a caller's room, where it fits.
 fn write(room: &mut [u8], text: &[u8])
@@ -29,6 +32,10 @@ pub extern "C" fn guavachisel_shipped(
         let description = shipped_rows::shipped_text();
         write(text, &description);
         *outcome = outcome::answered(description.len() as u64);
+    } else if which == DEVICES {
+        let twin = shipped_rows::twin::devices_text();
+        write(text, &twin);
+        *outcome = outcome::answered(twin.len() as u64);
     } else {
         *outcome = outcome::answered(0);
     }

@@ -31,8 +31,10 @@ extern "C" {
 #define GUAVACHISEL_TEXT_BYTES 16384 /* the longest text of a description */
 
 #define GUAVACHISEL_STACK_EMULATE 4096
+#define GUAVACHISEL_STACK_EMULATE_DEVICES 4096
 #define GUAVACHISEL_STACK_READ 163840
 #define GUAVACHISEL_STACK_EVALUATE 180224
+#define GUAVACHISEL_STACK_EVALUATE_DEVICES 180224
 #define GUAVACHISEL_STACK_SHIPPED 4096
 #define GUAVACHISEL_STACK_VERSION 4096
 
@@ -46,6 +48,18 @@ typedef struct {
     uint16_t switches;
 } guavachisel_machine;
 
+/*
+ * The registers of keyboard and teleprinter: the bytes have 8 bits, the others one. In a description they are KEY.BYTE, KEYBOARD.FLAG, PRINTER.FLAG, PRINT.BYTE
+ * and PRINT.MARK. A print mark that stands raises the printer's flag at the start of the next step; it prints nothing.
+ */
+typedef struct {
+    uint16_t key_byte;
+    uint16_t keyboard_flag;
+    uint16_t printer_flag;
+    uint16_t print_byte;
+    uint16_t print_mark;
+} guavachisel_devices;
+
 /* The registers of a description, in the order of its lines; 0 where it has none. */
 typedef struct {
     uint16_t values[GUAVACHISEL_REGISTERS];
@@ -58,8 +72,8 @@ typedef struct {
     uint64_t steps;   /* steps or cycles done; 0 after a refusal */
     uint64_t reason;  /* why the run ended: one of guavachisel_reason; 0 after a refusal */
     uint64_t rows;    /* rows listed */
-    uint64_t read;    /* no entry speaks of it */
-    uint64_t printed; /* no entry speaks of it */
+    uint64_t read;    /* with devices: the bytes of the input that arrived; those behind them are unread */
+    uint64_t printed; /* with devices: the bytes printed, at the front of the output */
     uint64_t answer;  /* the length of a shipped description */
     uint64_t sum;     /* no entry speaks of it */
 } guavachisel_outcome;
@@ -67,7 +81,8 @@ typedef struct {
 /* Why a run ended. */
 enum guavachisel_reason {
     GUAVACHISEL_HALTED = 1, /* RUN is 0 */
-    GUAVACHISEL_SPENT = 2   /* the budget is done */
+    GUAVACHISEL_SPENT = 2,  /* the budget is done */
+    GUAVACHISEL_PAPER = 3   /* with devices: the output has no place left, also where the budget is done, too */
 };
 
 /* What is refused. A text is tried first, then the state, by rising numbers. */
@@ -89,12 +104,23 @@ enum guavachisel_refusal {
 
 /* The shipped descriptions. */
 enum guavachisel_description {
-    GUAVACHISEL_PLAIN = 0 /* the PDP-8 of guavachisel_emulate; its first six registers are those of guavachisel_machine, in that order */
+    GUAVACHISEL_PLAIN = 0,  /* the PDP-8 of guavachisel_emulate; its first six registers are those of guavachisel_machine, in that order */
+    GUAVACHISEL_DEVICES = 1 /* the PDP-8 of guavachisel_emulate_devices; behind the six stand those of guavachisel_devices, in that order */
 };
 
 /* Runs the PDP-8 for at most `budget` steps. Refusals 11 to 14. Speaks of refusal, place, steps and reason. */
 void guavachisel_emulate(uint16_t *GUAVACHISEL_RESTRICT memory, size_t words, guavachisel_machine *GUAVACHISEL_RESTRICT machine, uint64_t budget,
                          guavachisel_outcome *GUAVACHISEL_RESTRICT outcome);
+
+/*
+ * The same with keyboard and teleprinter. The next byte of `input` arrives at the start of a step that finds the keyboard's flag 0; what is printed goes to the first
+ * places of `output`, the places behind it stay as they came, and with none left of its `room` no step begins. Two calls, the second from what the first left, on the input
+ * behind `read` and into the output behind `printed`, are one run. Refusals 11 to 14; 13 looks at the six registers of `machine`, then at the five of `devices`. Speaks of refusal,
+ * place, steps, reason, read and printed.
+ */
+void guavachisel_emulate_devices(uint16_t *GUAVACHISEL_RESTRICT memory, size_t words, guavachisel_machine *GUAVACHISEL_RESTRICT machine,
+                                 guavachisel_devices *GUAVACHISEL_RESTRICT devices, uint64_t budget, const uint8_t *GUAVACHISEL_RESTRICT input, size_t bytes,
+                                 uint8_t *GUAVACHISEL_RESTRICT output, size_t room, guavachisel_outcome *GUAVACHISEL_RESTRICT outcome);
 
 /* Reads a description. Refusals 1 to 8. Speaks of refusal and place, which is the line, from 1. */
 void guavachisel_read(const uint8_t *GUAVACHISEL_RESTRICT text, size_t bytes, guavachisel_outcome *GUAVACHISEL_RESTRICT outcome);
@@ -106,6 +132,16 @@ void guavachisel_read(const uint8_t *GUAVACHISEL_RESTRICT text, size_t bytes, gu
 void guavachisel_evaluate(const uint8_t *GUAVACHISEL_RESTRICT text, size_t bytes, uint16_t *GUAVACHISEL_RESTRICT memory, size_t words,
                           guavachisel_registers *GUAVACHISEL_RESTRICT registers, uint64_t budget, uint8_t *GUAVACHISEL_RESTRICT rows, size_t places,
                           guavachisel_outcome *GUAVACHISEL_RESTRICT outcome);
+
+/*
+ * The same with keyboard and teleprinter, where the description has registers KEY.BYTE and PRINT.BYTE of 8 bits and KEYBOARD.FLAG, PRINTER.FLAG and PRINT.MARK of one, in
+ * whatever places: they are filled before a cycle, and a byte that is newly marked is taken after it. A description that lacks one of the five in name or width runs as by
+ * guavachisel_evaluate: the input stays unread, the output as it came, and `room` counts for nothing. Speaks of read and printed, too.
+ */
+void guavachisel_evaluate_devices(const uint8_t *GUAVACHISEL_RESTRICT text, size_t bytes, uint16_t *GUAVACHISEL_RESTRICT memory, size_t words,
+                                  guavachisel_registers *GUAVACHISEL_RESTRICT registers, uint64_t budget, uint8_t *GUAVACHISEL_RESTRICT rows, size_t places,
+                                  const uint8_t *GUAVACHISEL_RESTRICT input, size_t input_bytes, uint8_t *GUAVACHISEL_RESTRICT output, size_t room,
+                                  guavachisel_outcome *GUAVACHISEL_RESTRICT outcome);
 
 /*
  * Writes the shipped description `which` to the first bytes of `text`, if it fits into the `room` bytes there; else, and behind it, they stay as they came. Speaks

@@ -1,7 +1,7 @@
 /*
  * What the header says beside what the other tests try: the version, NULL with length 0, the room of a shipped description, and that what an entry doesn't speak of
- * is 0. It is compiled as C and as C++. The first argument is the shipped description's file. Writes a line for each thing that isn't so; the exit status is 0
- * if none is.
+ * is 0. It is compiled as C and as C++. The arguments are the files of the shipped descriptions, in the order of their numbers. Writes a line for each thing that
+ * isn't so; the exit status is 0 if none is.
  */
 #include <stdio.h>
 #include <string.h>
@@ -11,10 +11,16 @@
 #define MARK 0xa5
 
 static uint16_t memory[GUAVACHISEL_WORDS];
-static uint8_t rows[GUAVACHISEL_ROWS], shipped[GUAVACHISEL_TEXT_BYTES], room[GUAVACHISEL_TEXT_BYTES];
-static size_t bytes;
+#define DESCRIPTIONS 2
+
+static uint8_t rows[GUAVACHISEL_ROWS], descriptions[DESCRIPTIONS][GUAVACHISEL_TEXT_BYTES], room[GUAVACHISEL_TEXT_BYTES];
+static size_t lengths[DESCRIPTIONS];
+static uint8_t *const shipped = descriptions[GUAVACHISEL_PLAIN], *const twin = descriptions[GUAVACHISEL_DEVICES];
 static guavachisel_outcome outcome;
 static int wrong;
+
+/* What an entry with devices says it read and printed; 0 of the others. */
+static uint64_t expected_read, expected_printed;
 
 /* Compares the outcome with the numbers of all its places, and marks it for the next call. */
 static void expect(const char *call, uint64_t refusal, uint64_t place, uint64_t steps, uint64_t reason, uint64_t listed, uint64_t answer)
@@ -28,6 +34,9 @@ static void expect(const char *call, uint64_t refusal, uint64_t place, uint64_t 
     known.reason = reason;
     known.rows = listed;
     known.answer = answer;
+    known.read = expected_read;
+    known.printed = expected_printed;
+    expected_read = expected_printed = 0;
     if (memcmp(&known, &outcome, sizeof known) != 0) {
         printf("header: outcome of %s\n", call);
         wrong = 1;
@@ -39,7 +48,7 @@ static void try_read(void)
 {
     guavachisel_read(NULL, 0, &outcome);
     expect("read, NULL", GUAVACHISEL_REFUSED_HEADER, 1, 0, 0, 0, 0);
-    guavachisel_read(shipped, bytes, &outcome);
+    guavachisel_read(shipped, lengths[0], &outcome);
     expect("read", 0, 0, 0, 0, 0, 0);
 }
 
@@ -66,23 +75,76 @@ static void try_evaluate(void)
     memset(&registers, 0, sizeof registers);
     guavachisel_evaluate(NULL, 0, NULL, 0, &registers, 1, NULL, 0, &outcome);
     expect("evaluate, NULL text", GUAVACHISEL_REFUSED_HEADER, 1, 0, 0, 0, 0);
-    guavachisel_evaluate(shipped, bytes, NULL, 0, &registers, 1, rows, GUAVACHISEL_ROWS, &outcome);
+    guavachisel_evaluate(shipped, lengths[0], NULL, 0, &registers, 1, rows, GUAVACHISEL_ROWS, &outcome);
     expect("evaluate, NULL memory", GUAVACHISEL_REFUSED_MEMORY, 0, 0, 0, 0, 0);
-    guavachisel_evaluate(shipped, bytes, memory, GUAVACHISEL_WORDS, &registers, 1, NULL, 0, &outcome);
+    guavachisel_evaluate(shipped, lengths[0], memory, GUAVACHISEL_WORDS, &registers, 1, NULL, 0, &outcome);
     expect("evaluate, NULL rows", GUAVACHISEL_REFUSED_ROW_LIST, 0, 0, 0, 0, 0);
-    guavachisel_evaluate(shipped, bytes, memory, GUAVACHISEL_WORDS, &registers, 1, rows, GUAVACHISEL_ROWS, &outcome);
+    guavachisel_evaluate(shipped, lengths[0], memory, GUAVACHISEL_WORDS, &registers, 1, rows, GUAVACHISEL_ROWS, &outcome);
     expect("evaluate, RUN 0", 0, 0, 0, GUAVACHISEL_HALTED, 0, 0);
     registers.values[2] = 1;
     memory[0] = 07402;
-    guavachisel_evaluate(shipped, bytes, memory, GUAVACHISEL_WORDS, &registers, 9, rows, GUAVACHISEL_ROWS, &outcome);
+    guavachisel_evaluate(shipped, lengths[0], memory, GUAVACHISEL_WORDS, &registers, 9, rows, GUAVACHISEL_ROWS, &outcome);
     expect("evaluate", 0, 0, 1, GUAVACHISEL_HALTED, 9, 0);
 }
 
+/* Two bytes typed, and KRB, TLS, HLT: the first is printed, the place behind it stays, and its mark is gone once the printer's flag has risen. */
+static void expect_echo(const char *call, const uint8_t *output, uint64_t mark)
+{
+    if (output[0] != 'H' || output[1] != MARK || mark != 0) {
+        printf("header: output of %s\n", call);
+        wrong = 1;
+    }
+}
+
+static void try_emulate_devices(void)
+{
+    guavachisel_machine machine = {0, 0, 1, 0, 0, 0};
+    guavachisel_devices devices = {0, 0, 0, 0, 0};
+    uint8_t output[2] = {MARK, MARK};
+
+    guavachisel_emulate_devices(NULL, 0, &machine, &devices, 1, NULL, 0, NULL, 0, &outcome);
+    expect("emulate_devices, NULL", GUAVACHISEL_REFUSED_MEMORY, 0, 0, 0, 0, 0);
+    devices.print_mark = 2;
+    guavachisel_emulate_devices(memory, GUAVACHISEL_WORDS, &machine, &devices, 1, (const uint8_t *)"HI", 2, output, 2, &outcome);
+    expect("emulate_devices, mark", GUAVACHISEL_REFUSED_VALUE, 10, 0, 0, 0, 0);
+    devices.print_mark = 0;
+    guavachisel_emulate_devices(memory, GUAVACHISEL_WORDS, &machine, &devices, 1, (const uint8_t *)"HI", 2, NULL, 0, &outcome);
+    expect("emulate_devices, no room", 0, 0, 0, GUAVACHISEL_PAPER, 0, 0);
+    memory[0] = 06036;
+    memory[1] = 06046;
+    memory[2] = 07402;
+    expected_read = 2;
+    expected_printed = 1;
+    guavachisel_emulate_devices(memory, GUAVACHISEL_WORDS, &machine, &devices, 9, (const uint8_t *)"HI", 2, output, 2, &outcome);
+    expect("emulate_devices", 0, 0, 3, GUAVACHISEL_HALTED, 0, 0);
+    expect_echo("emulate_devices", output, devices.print_mark);
+}
+
+static void try_evaluate_devices(void)
+{
+    guavachisel_registers registers;
+    uint8_t output[2] = {MARK, MARK};
+
+    memset(&registers, 0, sizeof registers);
+    guavachisel_evaluate_devices(NULL, 0, NULL, 0, &registers, 1, NULL, 0, NULL, 0, NULL, 0, &outcome);
+    expect("evaluate_devices, NULL text", GUAVACHISEL_REFUSED_HEADER, 1, 0, 0, 0, 0);
+    registers.values[2] = 1;
+    guavachisel_evaluate_devices(shipped, lengths[0], memory, GUAVACHISEL_WORDS, &registers, 0, rows, GUAVACHISEL_ROWS, (const uint8_t *)"HI", 2, NULL, 0, &outcome);
+    expect("evaluate_devices, a description without", 0, 0, 0, GUAVACHISEL_SPENT, 0, 0);
+    guavachisel_evaluate_devices(twin, lengths[1], memory, GUAVACHISEL_WORDS, &registers, 0, rows, GUAVACHISEL_ROWS, (const uint8_t *)"HI", 2, NULL, 0, &outcome);
+    expect("evaluate_devices, no room", 0, 0, 0, GUAVACHISEL_PAPER, 0, 0);
+    expected_read = 2;
+    expected_printed = 1;
+    guavachisel_evaluate_devices(twin, lengths[1], memory, GUAVACHISEL_WORDS, &registers, 9, rows, GUAVACHISEL_ROWS, (const uint8_t *)"HI", 2, output, 2, &outcome);
+    expect("evaluate_devices", 0, 0, 3, GUAVACHISEL_HALTED, 9, 0);
+    expect_echo("evaluate_devices", output, registers.values[10]);
+}
+
 /* Whether the room begins with so many bytes of the description, and has only marks after them; then marks it all. */
-static void begins(const char *call, size_t count)
+static void begins(const char *call, const uint8_t *text, size_t count)
 {
     size_t place;
-    int good = memcmp(room, shipped, count) == 0;
+    int good = memcmp(room, text, count) == 0;
 
     for (place = count; place < sizeof room; place++)
         good &= room[place] == MARK;
@@ -93,39 +155,53 @@ static void begins(const char *call, size_t count)
     memset(room, MARK, sizeof room);
 }
 
+static void try_description(uint64_t which, const uint8_t *text, size_t bytes)
+{
+    guavachisel_shipped(which, NULL, 0, &outcome);
+    expect("shipped, NULL", 0, 0, 0, 0, 0, bytes);
+    guavachisel_shipped(which, room, bytes - 1, &outcome);
+    expect("shipped, one byte short", 0, 0, 0, 0, 0, bytes);
+    begins("shipped, one byte short", text, 0);
+    guavachisel_shipped(which, room, bytes, &outcome);
+    expect("shipped, room of its length", 0, 0, 0, 0, 0, bytes);
+    begins("shipped, room of its length", text, bytes);
+    guavachisel_shipped(which, room, sizeof room, &outcome);
+    expect("shipped, more room", 0, 0, 0, 0, 0, bytes);
+    begins("shipped, more room", text, bytes);
+}
+
 static void try_shipped(void)
 {
     uint64_t which;
 
     memset(room, MARK, sizeof room);
-    guavachisel_shipped(GUAVACHISEL_PLAIN, NULL, 0, &outcome);
-    expect("shipped, NULL", 0, 0, 0, 0, 0, bytes);
-    guavachisel_shipped(GUAVACHISEL_PLAIN, room, bytes - 1, &outcome);
-    expect("shipped, one byte short", 0, 0, 0, 0, 0, bytes);
-    begins("shipped, one byte short", 0);
-    guavachisel_shipped(GUAVACHISEL_PLAIN, room, bytes, &outcome);
-    expect("shipped, room of its length", 0, 0, 0, 0, 0, bytes);
-    begins("shipped, room of its length", bytes);
-    guavachisel_shipped(GUAVACHISEL_PLAIN, room, sizeof room, &outcome);
-    expect("shipped, more room", 0, 0, 0, 0, 0, bytes);
-    begins("shipped, more room", bytes);
-    for (which = 1; which != 0; which *= 2) {
+    for (which = 0; which < DESCRIPTIONS; which++)
+        try_description(which, descriptions[which], lengths[which]);
+    for (which = DESCRIPTIONS; which != 0; which *= 2) {
         guavachisel_shipped(which, room, sizeof room, &outcome);
         expect("shipped, another number", 0, 0, 0, 0, 0, 0);
-        begins("shipped, another number", 0);
+        begins("shipped, another number", shipped, 0);
     }
+}
+
+/* Takes a description's file; 1 if it can be read. */
+static int take(int which, const char *name)
+{
+    FILE *file = fopen(name, "rb");
+
+    if (file == NULL)
+        return 0;
+    lengths[which] = fread(descriptions[which], 1, GUAVACHISEL_TEXT_BYTES, file);
+    fclose(file);
+    return 1;
 }
 
 int main(int count, char **arguments)
 {
-    FILE *file = count == 2 ? fopen(arguments[1], "rb") : NULL;
-
-    if (file == NULL) {
-        fprintf(stderr, "usage: %s DESCRIPTION\n", arguments[0]);
+    if (count != 1 + DESCRIPTIONS || !take(0, arguments[1]) || !take(1, arguments[2])) {
+        fprintf(stderr, "usage: %s DESCRIPTION DESCRIPTION\n", arguments[0]);
         return 2;
     }
-    bytes = fread(shipped, 1, sizeof shipped, file);
-    fclose(file);
     if (guavachisel_version() != GUAVACHISEL_VERSION) {
         printf("header: version\n");
         wrong = 1;
@@ -134,6 +210,8 @@ int main(int count, char **arguments)
     try_read();
     try_emulate();
     try_evaluate();
+    try_emulate_devices();
+    try_evaluate_devices();
     try_shipped();
     return wrong;
 }

@@ -24,6 +24,13 @@ AT(guavachisel_machine, interrupt_enable, 3, 2);
 AT(guavachisel_machine, interrupt_request, 4, 2);
 AT(guavachisel_machine, switches, 5, 2);
 
+SAME(devices_size, sizeof(guavachisel_devices), 10);
+AT(guavachisel_devices, key_byte, 0, 2);
+AT(guavachisel_devices, keyboard_flag, 1, 2);
+AT(guavachisel_devices, printer_flag, 2, 2);
+AT(guavachisel_devices, print_byte, 3, 2);
+AT(guavachisel_devices, print_mark, 4, 2);
+
 SAME(registers_size, sizeof(guavachisel_registers), 32);
 AT(guavachisel_registers, values, 0, 32);
 
@@ -40,6 +47,7 @@ AT(guavachisel_outcome, sum, 8, 8);
 
 SAME(halted, GUAVACHISEL_HALTED, 1);
 SAME(spent, GUAVACHISEL_SPENT, 2);
+SAME(paper, GUAVACHISEL_PAPER, 3);
 
 SAME(refused_size, GUAVACHISEL_REFUSED_SIZE, 1);
 SAME(refused_header, GUAVACHISEL_REFUSED_HEADER, 2);
@@ -56,3 +64,4 @@ SAME(refused_budget, GUAVACHISEL_REFUSED_BUDGET, 14);
 SAME(refused_row_list, GUAVACHISEL_REFUSED_ROW_LIST, 15);
 
 SAME(plain, GUAVACHISEL_PLAIN, 0);
+SAME(devices, GUAVACHISEL_DEVICES, 1);

@@ -32,6 +32,19 @@ static void emulate(void)
     guavachisel_emulate(memory, GUAVACHISEL_WORDS, &machine, GUAVACHISEL_BUDGET, &outcome);
 }
 
+static uint8_t input[GUAVACHISEL_ROWS], output[GUAVACHISEL_ROWS];
+
+static void emulate_devices(void)
+{
+    guavachisel_machine machine = {0, 0, 1, 1, 1, 0};
+    guavachisel_devices devices = {0, 0, 0, 0, 1};
+
+    memory[0] = 06046;
+    memory[1] = 06036;
+    memory[2] = 05000;
+    guavachisel_emulate_devices(memory, GUAVACHISEL_WORDS, &machine, &devices, GUAVACHISEL_BUDGET, input, sizeof input, output, sizeof output, &outcome);
+}
+
 static void read_text(void)
 {
     guavachisel_read(text, bytes, &outcome);
@@ -45,9 +58,18 @@ static void evaluate(void)
     guavachisel_evaluate(text, bytes, memory, GUAVACHISEL_WORDS, &registers, 1000, rows, GUAVACHISEL_ROWS, &outcome);
 }
 
+static void evaluate_devices(void)
+{
+    guavachisel_registers registers = {{0}};
+
+    registers.values[2] = 1;
+    guavachisel_evaluate_devices(text, bytes, memory, GUAVACHISEL_WORDS, &registers, 1000, rows, GUAVACHISEL_ROWS, input, sizeof input, output, sizeof output,
+                                 &outcome);
+}
+
 static void shipped(void)
 {
-    guavachisel_shipped(GUAVACHISEL_PLAIN, text, sizeof text, &outcome);
+    guavachisel_shipped(GUAVACHISEL_DEVICES, text, sizeof text, &outcome);
     bytes = (size_t)outcome.answer;
 }
 
@@ -120,8 +142,11 @@ int main(void)
     deepest();
     good = run("read", read_text, GUAVACHISEL_STACK_READ);
     good &= run("evaluate", evaluate, GUAVACHISEL_STACK_EVALUATE);
+    good &= run("evaluate_devices", evaluate_devices, GUAVACHISEL_STACK_EVALUATE_DEVICES);
     good &= run("shipped", shipped, GUAVACHISEL_STACK_SHIPPED);
     good &= run("evaluate", evaluate, GUAVACHISEL_STACK_EVALUATE);
+    good &= run("evaluate_devices", evaluate_devices, GUAVACHISEL_STACK_EVALUATE_DEVICES);
+    good &= run("emulate_devices", emulate_devices, GUAVACHISEL_STACK_EMULATE_DEVICES);
     good &= run("emulate", emulate, GUAVACHISEL_STACK_EMULATE);
     good &= run("version", version, GUAVACHISEL_STACK_VERSION);
     return good ? 0 : 1;

@@ -19,9 +19,9 @@ abbrev pub answerTo : List ℕ → List ℕ → List ℕ → ℕ → List ℕ �
 answerTo mem regs five budget input output = emulateDevices (machineOf regs) (devicesOf five) mem budget input output
 
 -- everything after the call: memory, machine, devices ("guavachisel_devices", the registers in their order), output and outcome
-pub record EmulatedDevices (mem regs five : List ℕ) (budget : ℕ) (input output mem′ regs′ five′ output′ out′ : List ℕ) : Type 0 where
-  pub memory : mem′ ≡ answerTo mem regs five budget input output .report .memory
-  pub machine : regs′ ≡ values (answerTo mem regs five budget input output .report .machine)
-  pub devices : five′ ≡ deviceValues (answerTo mem regs five budget input output .devices)
-  pub output : output′ ≡ answerTo mem regs five budget input output .exchange .output
-  pub outcome : out′ ≡ places (outcomeOf (answerTo mem regs five budget input output))
+pub record EmulatedDevices (mem regs five : List ℕ) (budget : ℕ) (input paper mem′ regs′ five′ paper′ out′ : List ℕ) : Type 0 where
+  pub memory : mem′ ≡ answerTo mem regs five budget input paper .report .memory
+  pub machine : regs′ ≡ values (answerTo mem regs five budget input paper .report .machine)
+  pub devices : five′ ≡ deviceValues (answerTo mem regs five budget input paper .devices)
+  pub output : paper′ ≡ answerTo mem regs five budget input paper .exchange .output
+  pub outcome : out′ ≡ places (outcomeOf (answerTo mem regs five budget input paper))

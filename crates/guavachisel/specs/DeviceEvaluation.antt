@@ -13,9 +13,9 @@ abbrev pub outcomeOf : DeviceReport → Outcome
 outcomeOf r = exchanging (plain.outcomeOf (r .report)) (r .exchange .read) (r .exchange .printed)
 
 -- everything after the call: registers, memory, row list, output and outcome
-pub record EvaluatedDevices (text regs mem : List ℕ) (budget : ℕ) (list input output regs′ mem′ list′ output′ out′ : List ℕ) : Type 0 where
-  pub registers : regs′ ≡ evaluateDevices text regs mem budget list input output .report .registers
-  pub memory : mem′ ≡ evaluateDevices text regs mem budget list input output .report .memory
-  pub rows : list′ ≡ evaluateDevices text regs mem budget list input output .report .list
-  pub output : output′ ≡ evaluateDevices text regs mem budget list input output .exchange .output
-  pub outcome : out′ ≡ places (outcomeOf (evaluateDevices text regs mem budget list input output))
+pub record EvaluatedDevices (text regs mem : List ℕ) (budget : ℕ) (list input paper regs′ mem′ list′ paper′ out′ : List ℕ) : Type 0 where
+  pub registers : regs′ ≡ evaluateDevices text regs mem budget list input paper .report .registers
+  pub memory : mem′ ≡ evaluateDevices text regs mem budget list input paper .report .memory
+  pub rows : list′ ≡ evaluateDevices text regs mem budget list input paper .report .list
+  pub output : paper′ ≡ evaluateDevices text regs mem budget list input paper .exchange .output
+  pub outcome : out′ ≡ places (outcomeOf (evaluateDevices text regs mem budget list input paper))

@@ -6,9 +6,8 @@ use mathlib.Core.List.{List}
 use Prim.Native.Nat.{ℕ, zero, suc, _+_, _-_, _≤_, _<_}
 use native.Mathlib.Nat.{add-suc, suc-add}
 use native.Mathlib.Omega.{arith}
-use lib.Dec.{eqb, ltb, lit<}
+use lib.Dec.{ltb, lit<}
 use lib.ListN.{length}
-use borrow.Author.Tests.{ne-eqb}
 use Rattle.laws.proofs.Tests.{by-test, by-case}
 use Rattle.laws.proofs.Joined.{and-left, and-right}
 use Rattle.word.specs.Choice.{on, pick}
@@ -24,10 +23,11 @@ use Rattle.machine_state.specs.State.{State, Good, word, withRun, withRequest}
 use Rattle.machine_state.specs.Instruction.{isDevice}
 use Rattle.machine_state.proofs.Keeps.{request-good}
 use Rattle.machine_run.specs.Step.{makesTest, step}
-use Rattle.machine_run.specs.Stretch.{paused, Ready, advance, moves, stretchFrom}
+use Rattle.machine_run.specs.Run as steps
+use Rattle.machine_run.specs.Stretch.{pausedAt, isPaused, unpaused, Ready, advance, stretchFrom}
 use Rattle.machine_run.proofs.Keeps.{step-good}
 use Rattle.machine_run.proofs.Advances.{untested-plain}
-use Rattle.machine_run.proofs.Ready.{moves-is, unpaused-good, paused-good, stretch-ready}
+use Rattle.machine_run.proofs.Ready.{good-unpaused, paused-is, paused-back, unpaused-good, paused-good, stretch-ready}
 use Rattle.machine_console.specs.Console.{Console, console, line, deviceStep, running, turn}
 use Rattle.machine_console.specs.Rounds.{refreshed, limit, resumed, taken, worked, begunAt, finishedAt, round}
 use Rattle.machine_console.proofs.Keeps.{ConsoleFit, SessionFit, line-lt, device-fit}
@@ -42,31 +42,33 @@ run-one (suc (suc n)) h e = absurd (omega arith)
 
 -- ---- a step of the stretch
 
-pauses : (s : State) → isDevice (word (s .pc) s) ≡ true → advance true s ≡ withRun paused s
+pauses : (s : State) → isDevice (word (s .pc) s) ≡ true → advance true s ≡ pausedAt (s .pc) s
 unfolding advance
-pauses s e = case-true (isDevice (word (s .pc) s)) (withRun paused s) (step s) e
+pauses s e = case-true (isDevice (word (s .pc) s)) (pausedAt (s .pc) s) (step s) e
 
 steps-on : (s : State) → isDevice (word (s .pc) s) ≡ false → advance true s ≡ step s
 unfolding advance
-steps-on s e = case-false (isDevice (word (s .pc) s)) (withRun paused s) (step s) e
+steps-on s e = case-false (isDevice (word (s .pc) s)) (pausedAt (s .pc) s) (step s) e
 
 -- a state that is not paused is left as it is, and one that is has its device's word done
-resumed-going : (c : Devices) (s : State) (l p : List ℕ) → Settled c l → s .run < 2 → finished (resumed c s) l p ≡ standing s c l p
+resumed-going : (c : Devices) (s : State) (l p : List ℕ) → Settled c l → Good s → finished (resumed c s) l p ≡ standing s c l p
 unfolding resumed
-resumed-going c s l p t h =
-    ap (λ (x : Console). finished x l p)
-    (case-false (eqb (s .run) paused) (deviceStep (console (withRun 1 s) c)) (console s c) (ne-eqb (s .run) paused (λ e. omega (arith, e, h))))
+resumed-going c s l p t g =
+    ap (λ (x : Console). finished x l p) (case-false (isPaused s) (deviceStep (console (unpaused s) c)) (console s c) (good-unpaused g))
     ∙ unprinted s p t
 
-resumed-paused : (c : Devices) (s : State) → s .run ≡ 1 → resumed c (withRun paused s) ≡ deviceStep (console s c)
+resumed-paused : (c : Devices) (s : State) → s .run ≡ 1 → resumed c (pausedAt (s .pc) s) ≡ deviceStep (console s c)
 unfolding resumed
-resumed-paused c s e = ap (λ (r : ℕ). deviceStep (console (withRun r s) c)) (sym e)
+resumed-paused c s e =
+    let p : State = pausedAt (s .pc) s in
+    case-true (isPaused p) (deviceStep (console (unpaused p) c)) (console p c) (paused-is s)
+    ∙ ap (λ (x : State). deviceStep (console x c)) (paused-back s ∙ ap (λ (r : ℕ). withRun r s) (sym e))
 
 resumed-fits : {c : Devices} {s : State} → Ready s → DevicesFit c → ConsoleFit (resumed c s)
 unfolding resumed
 resumed-fits {c} {s} r f =
-    by-case ConsoleFit (eqb (s .run) paused)
-    (λ t. device-fit {x = console (withRun 1 s) c} (record { state = paused-good t r; devices = f }))
+    by-case ConsoleFit (isPaused s)
+    (λ t. device-fit {x = console (unpaused s) c} (record { state = paused-good t r; devices = f }))
     (λ t. record { state = unpaused-good t r; devices = f })
 
 -- ---- a stretch
@@ -89,30 +91,30 @@ module _ (room : ℕ) where
       → ltb (length p) room ≡ true → from left done (standing s c l p) ≡ after budget c l p (stretchFrom true left done s)
   unfolding runFrom
   stretch-is budget zero done s c l p b g q h =
-      ap (from zero done) (sym (resumed-going c s l p (q .settled) (g .run)))
+      ap (from zero done) (sym (resumed-going c s l p (q .settled) g))
       ∙ same-left zero (budget - done) done (finished (resumed c s) l p) (omega (arith, b))
   stretch-is budget (suc left) done s c l p b g q h =
       let x = standing s c l p in
-      by-test (moves s)
+      by-test (on (s .run))
       (λ m.
-      let one : on (s .run) ≡ true = sym (moves-is g) ∙ m in
+      let one : on (s .run) ≡ true = m in
       run-step (goesOn running room) turn left done x (goes-on x one h)
       ∙ by-test (isDevice (word (s .pc) s))
       (λ d. ap (from left (suc done)) (device-turn s c l p (q .settled) d
       ∙ ap (λ (y : Console). finished y l p) (sym (resumed-paused c s (run-one (s .run) (g .run) one))))
-      ∙ same-left left (budget - suc done) (suc done) (finished (resumed c (withRun paused s)) l p) (omega (arith, b))
+      ∙ same-left left (budget - suc done) (suc done) (finished (resumed c (pausedAt (s .pc) s)) l p) (omega (arith, b))
       ∙ ap (after budget c l p)
-      (sym (run-step moves (advance true) left done s m
+      (sym (run-step steps.running (advance true) left done s m
       ∙ ap (stretchFrom true left (suc done)) (pauses s d)
-      ∙ run-stops moves (advance true) left (suc done) (withRun paused s) refl)))
+      ∙ run-stops steps.running (advance true) left (suc done) (pausedAt (s .pc) s) refl)))
       (λ d. ap (from left (suc done)) (quiet-turn s c l p q d)
       ∙ stretch-is budget left (suc done) (step s) c l p (b ∙ suc-add left done ∙ sym (add-suc left done)) (step-good g) (quiet-stays q) h
       ∙ ap (after budget c l p)
-      (sym (run-step moves (advance true) left done s m ∙ ap (stretchFrom true left (suc done)) (steps-on s d)))))
+      (sym (run-step steps.running (advance true) left done s m ∙ ap (stretchFrom true left (suc done)) (steps-on s d)))))
       (λ m.
       same-left (suc left) (budget - done) done x (omega (arith, b))
-      ∙ ap (from (budget - done) done) (sym (resumed-going c s l p (q .settled) (g .run)))
-      ∙ ap (after budget c l p) (sym (run-stops moves (advance true) (suc left) done s m)))
+      ∙ ap (from (budget - done) done) (sym (resumed-going c s l p (q .settled) g))
+      ∙ ap (after budget c l p) (sym (run-stops steps.running (advance true) (suc left) done s m)))
 
   -- ---- a round
 
@@ -134,14 +136,14 @@ module _ (room : ℕ) where
       run-step (goesOn running room) turn left done x e ∙ ap (from left (suc done)) t ∙ sym (run-step (goesOn running room) turn left done y f)
 
   -- steps of a stretch that begins
-  some : (left done : ℕ) (s : State) → 0 < left → moves s ≡ true
+  some : (left done : ℕ) (s : State) → 0 < left → on (s .run) ≡ true
       → (done < stretchFrom true left done s .steps) × (stretchFrom true left done s .steps ≤ done + left)
   some zero done s h m = absurd (omega arith)
   some (suc left) done s h m =
       let y = advance true s in
-      let count = ap (λ (t : Ended State). t .steps) (from-following moves (advance true) left (suc done) y) in
-      let few = steps-within moves (advance true) left y in
-      subst (λ (t : Ended State). (done < t .steps) × (t .steps ≤ done + suc left)) (sym (run-step moves (advance true) left done s m))
+      let count = ap (λ (t : Ended State). t .steps) (from-following steps.running (advance true) left (suc done) y) in
+      let few = steps-within steps.running (advance true) left y in
+      subst (λ (t : Ended State). (done < t .steps) × (t .steps ≤ done + suc left)) (sym (run-step steps.running (advance true) left done s m))
       (omega (arith, count), omega (arith, count, few))
 
   module _ (budget done : ℕ) (x : Session Console) (f : SessionFit x) (h : done < budget) (e : goesOn running room x ≡ true) where
@@ -173,7 +175,7 @@ module _ (room : ℕ) where
     abbrev made : Ended State → Ended (Session Console)
     made t = finishedAt x (taken c t)
 
-    turned : (left : ℕ) (y : State) → 0 < left → left ≤ budget - done → Good y → moves y ≡ true
+    turned : (left : ℕ) (y : State) → 0 < left → left ≤ budget - done → Good y → on (y .run) ≡ true
         → from (budget - done) done x ≡ onward budget (made (stretchFrom true left done y)) → Turned budget done x (made (stretchFrom true left done y))
     turned left y some-left most g m same =
         let grown = some left done y some-left m in
@@ -191,7 +193,7 @@ module _ (room : ℕ) where
     unfolding refresh
     tested t =
         let g = request-good (line-lt fit) good in
-        turned (budget - done) refresh (omega (arith, h)) (omega arith) g (moves-is g ∙ one)
+        turned (budget - done) refresh (omega (arith, h)) (omega arith) g one
         (next-turn (budget - done) done x (standing refresh c l (x .printed)) (omega (arith, h)) e e
         (tested-turn s (x .engine .devices) (x .unread) (x .printed) t)
         ∙ stretch-is budget (budget - done) done refresh c l (x .printed) (omega (arith, h)) g (record { settled = settled; request = refl }) place)
@@ -199,18 +201,18 @@ module _ (room : ℕ) where
     single : makesTest (word (s .pc) s) ≡ false → stretchFrom true 1 done s ≡ ended (suc done) (step s)
     unfolding runFrom
     single t =
-        run-step moves (advance true) 0 done s (moves-is good ∙ one)
+        run-step steps.running (advance true) 0 done s one
         ∙ ap (ended (suc done)) (steps-on s (untested-plain (word (s .pc) s) t))
 
     untested : makesTest (word (s .pc) s) ≡ false → Turned budget done x (made (stretchFrom true 1 done s))
     untested t =
         let left : budget - done ≡ suc (budget - suc done) = omega (arith, h) in
-        turned 1 s (lit< tt) (omega (arith, h)) good (moves-is good ∙ one)
+        turned 1 s (lit< tt) (omega (arith, h)) good one
         (same-left (budget - done) (suc (budget - suc done)) done x left
         ∙ run-step (goesOn running room) turn (budget - suc done) done x e
         ∙ ap (from (budget - suc done) (suc done))
         (untested-turn s (x .engine .devices) (x .unread) (x .printed) t
-        ∙ sym (resumed-going c (step s) l (x .printed) settled (step-good good .run)))
+        ∙ sym (resumed-going c (step s) l (x .printed) settled (step-good good)))
         ∙ ap (λ (r : Ended State). onward budget (made r)) (sym (single t)))
 
     pub round-turned : Turned budget done x (round (budget - done) done x)

@@ -2,19 +2,19 @@
 -- Assumes nothing.
 use mathlib.Core.Path.{_≡_, refl, sym, ap, _∙_, subst}
 use mathlib.Core.Bool.{Bool, true, false}
-use Prim.Native.Nat.{ℕ, _+_, _-_, _≤_, _<_}
+use Prim.Native.Nat.{ℕ, _+_, _-_, _^_, _≤_, _<_}
 use native.Mathlib.Omega.{arith}
-use borrow.Author.Tests.{eq-eqb, ne-eqb}
-use lib.Dec.{eqb}
+use borrow.Author.Tests.{le-leb, lt-leb}
 use Rattle.word.specs.Choice.{pick}
+use Rattle.word.specs.Word.{wordBits}
 use Rattle.word.proofs.Choice.{case-true, case-false, pick-either}
 use Rattle.runs.specs.Run.{Ended, ended}
 use Rattle.devices.specs.declared.Devices.{Devices}
 use Rattle.devices.specs.Devices.{DevicesFit}
-use Rattle.machine_state.specs.State.{State, Good, word, withRun, withRequest}
+use Rattle.machine_state.specs.State.{State, Good, word, withRequest}
 use Rattle.machine_state.proofs.Keeps.{request-good}
 use Rattle.machine_run.specs.Step.{makesTest}
-use Rattle.machine_run.specs.Stretch.{paused, Ready, stretchFrom}
+use Rattle.machine_run.specs.Stretch.{isPaused, unpaused, Ready, stretchFrom}
 use Rattle.machine_run.proofs.Ready.{paused-good, stretch-ready}
 use Rattle.machine_console.specs.Console.{Console, console, line, deviceStep}
 use Rattle.machine_console.specs.Rounds.{refreshed, limit, resumed, taken, worked}
@@ -57,17 +57,17 @@ module _ (s : State) (c : Devices) (done budget i : ℕ) (b : Bool) (flags reque
     unfolding worked
     went = ap (taken c) (stretched ∙ stretch-of)
 
-    pub work-paused : (z : Console) → y .run ≡ 2 → z ≡ deviceStep (console (withRun 1 y) c) → ended n z ≡ worked (budget - done) done (console s c)
+    pub work-paused : (z : Console) → 2 ^ wordBits ≤ y .pc → z ≡ deviceStep (console (unpaused y) c) → ended n z ≡ worked (budget - done) done (console s c)
     unfolding resumed
     work-paused z e d =
-        ap (ended n) (d ∙ sym (case-true (eqb (y .run) paused) (deviceStep (console (withRun 1 y) c)) (console y c) (eq-eqb (y .run) paused e))) ∙ went
+        ap (ended n) (d ∙ sym (case-true (isPaused y) (deviceStep (console (unpaused y) c)) (console y c) (le-leb (2 ^ wordBits) (y .pc) e))) ∙ went
 
-    pub work-going : (y .run ≡ 2 → ⊥) → ended n (console y c) ≡ worked (budget - done) done (console s c)
+    pub work-going : y .pc < 2 ^ wordBits → ended n (console y c) ≡ worked (budget - done) done (console s c)
     unfolding resumed
     work-going e =
-        ap (ended n) (sym (case-false (eqb (y .run) paused) (deviceStep (console (withRun 1 y) c)) (console y c) (ne-eqb (y .run) paused e))) ∙ went
+        ap (ended n) (sym (case-false (isPaused y) (deviceStep (console (unpaused y) c)) (console y c) (lt-leb (2 ^ wordBits) (y .pc) e))) ∙ went
 
-    pub work-resumes : Good s → DevicesFit c → done < budget → y .run ≡ 2 → Good (withRun 1 y)
+    pub work-resumes : Good s → DevicesFit c → done < budget → 2 ^ wordBits ≤ y .pc → Good (unpaused y)
     work-resumes g f h e =
-        paused-good (eq-eqb (y .run) paused e)
+        paused-good (le-leb (2 ^ wordBits) (y .pc) e)
         (subst (λ (t : Ended State). Ready (t .left)) (sym stretched) (stretch-ready true (end - done) done (withRequest request s) (work-begins g f h .0)))

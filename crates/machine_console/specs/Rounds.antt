@@ -1,17 +1,16 @@
 -- What the code does: stretches of plain steps up to a device's word, and rounds that make the starts of steps, the devices' words and the prints.
 -- Assumes nothing.
-use mathlib.Core.Bool.{Bool, true, false, _&&_}
-use Prim.Native.Nat.{ℕ, zero, suc, _-_}
-use lib.Dec.{eqb, ltb}
+use mathlib.Core.Bool.{true}
+use Prim.Native.Nat.{ℕ}
 use Rattle.word.specs.Choice.{pick}
 use Rattle.runs.specs.Run.{Ended, ended}
 use Rattle.devices.specs.declared.Devices.{Devices}
 use Rattle.devices.specs.Devices.{begun, unreadAfter, printedAfter}
-use Rattle.devices.specs.Session.{Session, goesOn}
-use Rattle.machine_state.specs.State.{State, word, withRun, withRequest}
+use Rattle.devices.specs.Session.{Session}
+use Rattle.machine_state.specs.State.{State, word, withRequest}
 use Rattle.machine_run.specs.Step.{makesTest}
-use Rattle.machine_run.specs.Stretch.{paused, stretchFrom}
-use Rattle.machine_console.specs.Console.{Console, console, line, deviceStep, running}
+use Rattle.machine_run.specs.Stretch.{isPaused, unpaused, stretchFrom}
+use Rattle.machine_console.specs.Console.{Console, console, line, deviceStep}
 
 -- ---- a round, with `left` steps of the budget left and `done` made; x is the machine after the start of a step
 
@@ -25,7 +24,7 @@ limit left x = pick (makesTest (word (x .state .pc) (x .state))) left 1
 
 -- the device's word before which a stretch paused
 unfoldable pub resumed : Devices → State → Console
-resumed c s = pick (eqb (s .run) paused) (deviceStep (console (withRun 1 s) c)) (console s c)
+resumed c s = pick (isPaused s) (deviceStep (console (unpaused s) c)) (console s c)
 
 abbrev pub taken : Devices → Ended State → Ended Console
 taken c t = ended (t .steps) (resumed c (t .left))

@@ -11,11 +11,11 @@ use Rattle.laws.proofs.Joined.{and-right, either}
 use Rattle.word.specs.Choice.{pick}
 use Rattle.word.specs.Word.{next}
 use Rattle.word.proofs.Choice.{case-false}
-use Rattle.machine_state.specs.State.{State, word, withPc, withRun}
+use Rattle.machine_state.specs.State.{State, word, withPc}
 use Rattle.machine_state.specs.Instruction.{op, isDevice}
 use Rattle.machine_state.specs.Interrupt.{interruptTest, testedIf, ion, inputOutput}
 use Rattle.machine_run.specs.Step.{halts, makesTest, step}
-use Rattle.machine_run.specs.Stretch.{paused, inputOutputOr, advance}
+use Rattle.machine_run.specs.Stretch.{pausedAt, inputOutputOr, advance}
 
 -- ---- the devices' words are of op 6, and make a test
 
@@ -52,15 +52,15 @@ pub advance-six : (devices : Bool) (s : State) (i n : ℕ) → i ≡ word (s .pc
     → inputOutputOr devices i (s .pc) (withPc n s) ≡ advance devices s
 unfolding advance inputOutputOr
 advance-six devices s i n fetched e =
-    ap (λ (x : State). pick (devices && isDevice i) (withRun paused s) x) e
-    ∙ ap (λ (x : ℕ). pick (devices && isDevice x) (withRun paused s) (step s)) fetched
+    ap (λ (x : State). pick (devices && isDevice i) (pausedAt (s .pc) s) x) e
+    ∙ ap (λ (x : ℕ). pick (devices && isDevice x) (pausedAt (s .pc) s) (step s)) fetched
 
 pub advance-rest : (devices : Bool) (s : State) (i : ℕ) → i ≡ word (s .pc) s → (op i ≡ 6 → ⊥) → step s ≡ advance devices s
 unfolding advance
 advance-rest devices s i fetched h =
     by-test (devices && isDevice (word (s .pc) s))
     (λ t. absurd (h (ap op fetched ∙ device-six (word (s .pc) s) (and-right devices (isDevice (word (s .pc) s)) t))))
-    (λ t. sym (case-false (devices && isDevice (word (s .pc) s)) (withRun paused s) (step s) t))
+    (λ t. sym (case-false (devices && isDevice (word (s .pc) s)) (pausedAt (s .pc) s) (step s) t))
 
 -- without devices nothing pauses
 pub advance-plain : (s : State) → advance false s ≡ step s

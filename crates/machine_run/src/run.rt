@@ -2,7 +2,7 @@
 use crate::step::step;
 use machine_state::Processor;
 ghost use mathlib.Core.Path.{_≡_};
-ghost use Prim.Native.Nat.{_-_, _%_, _≤_};
+ghost use Prim.Native.Nat.{_-_, _≤_, _<_};
 ghost use Rattle.word.specs.Choice.{on, pick};
 ghost use Rattle.runs.specs.Run.{ended};
 ghost use Rattle.machine_state.specs.State.{Good};
@@ -16,11 +16,12 @@ pub struct Progress {
     pub steps: u64,
 }
 
-// The number up to which steps are counted: none where RUN is 0, or at a pause. A product, so that the loop has one test and the machine one branch.
+// The number up to which steps are counted: none where RUN is 0. A product, so that the loop has one test and the machine one branch.
 fn bound(number: u64, run: u64) -> u64
-    ensures { λ r. ⌜ r ≡ pick (on (run % 2)) number 0 ⌝ }
+    requires { ⌜ run < 2 ⌝ }
+    ensures { λ r. ⌜ r ≡ pick (on run) number 0 ⌝ }
 {
-    number * (run % 2)
+    number * run
 }
 
 // Steps in one stretch, `done` having been made: up to a limit, a halt or, with devices, a word of theirs. The one loop of the machine with devices and without.

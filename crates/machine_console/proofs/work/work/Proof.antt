@@ -36,9 +36,12 @@ stretch-requires c κs =
     work-begins s (begin .args .c) (begin .args .steps) (begin .args .budget) _ _ _ _ _ (fetch .load .ensures) (told .makes-test .ensures) (flags .line .ensures)
     (refresh .choose-if .ensures) (ends .choose-if2 .ensures) (begin .pre .0) (begin .pre .1 .0) (begin .pre .1 .1)
 
+sub-r : tie.Need-sub-r
+sub-r c = search needs
+
 device-word-requires : tie.Need-device-word-requires
 device-word-requires c κs =
-    let call = c .before .before .before .before .before .before in
+    let call = c .before .before .before .before .before .before .before in
     let ends = call .before in
     let refresh = ends .before .before in
     let flags = refresh .before in
@@ -47,7 +50,7 @@ device-word-requires c κs =
     let begin = fetch .before .before .before in
     let s = at (begin .args .p) (now (begin .args .memory)) in (
       work-resumes s (begin .args .c) (begin .args .steps) (begin .args .budget) _ _ _ _ _ (fetch .load .ensures) (told .makes-test .ensures) (flags .line .ensures)
-          (refresh .choose-if .ensures) (ends .choose-if2 .ensures) _ _ (call .stretch .ensures) (begin .pre .0) (begin .pre .1 .0) (begin .pre .1 .1) (c .before .if1 .taken),
+          (refresh .choose-if .ensures) (ends .choose-if2 .ensures) _ _ (call .stretch .ensures) (begin .pre .0) (begin .pre .1 .0) (begin .pre .1 .1) (c .before .before .if1 .taken),
       begin .pre .1 .0,
     )
 
@@ -57,7 +60,7 @@ same-length c = search needs
 returns : tie.Need-returns
 returns c =
     let word = c .before .before .before .before in
-    let test = word .before .before in
+    let test = word .before .before .before in
     let call = test .before .before .before .before .before in
     let ends = call .before in
     let refresh = ends .before .before in
@@ -96,6 +99,7 @@ work-spec =
     add-choose-if
     choose-if-requires-2
     stretch-requires
+    sub-r
     device-word-requires
     same-length
     returns

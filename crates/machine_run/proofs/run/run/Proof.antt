@@ -16,7 +16,7 @@ same-length c = search needs
 returns : tie.Need-returns
 returns c =
     let begin = c .before .before .before .before .before in
-    c .before .before .stretch .ensures ∙ plain-stretch (begin .args .budget) (at (begin .args .p) (now (begin .args .memory))) (begin .pre)
+    c .before .before .stretch .ensures ∙ plain-stretch (begin .args .budget) (at (begin .args .p) (now (begin .args .memory)))
 
 pub run-spec : {M : Type 1} → statement M
 run-spec = tie.close (tie.spec stretch-requires same-length returns)

@@ -7,6 +7,9 @@ use Rattle.machine_run.proofs.step.input_output_or.Tie as tie
 is-device-requires : tie.Need-is-device-requires
 is-device-requires c κs = search needs
 
+add-q : tie.Need-add-q
+add-q c = search needs
+
 returns : tie.Need-returns
 unfolding inputOutputOr
 returns c = simp (← c .before .is-device .ensures, c .if1 .taken)
@@ -24,4 +27,4 @@ returns-2 c =
     simp (← test .before .is-device .ensures, test .if1 .left) (c .before .before .input-output .ensures)
 
 pub input-output-or-spec : {M : Type 1} → statement M
-input-output-or-spec = tie.close (tie.spec is-device-requires returns input-output-requires same-length returns-2)
+input-output-or-spec = tie.close (tie.spec is-device-requires add-q returns input-output-requires same-length returns-2)

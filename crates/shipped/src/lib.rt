@@ -18,7 +18,7 @@ pub struct Both {
 
 // The emulator, by the entry of its variant; without devices theirs stay, and nothing is read or printed.
 fn emulate_variant(
-    with_devices: bool,
+    devices: bool,
     memory: &mut [u16],
     m: Machine,
     c: Devices,
@@ -27,9 +27,9 @@ fn emulate_variant(
     output: &mut [u8],
 ) -> emulator::DeviceAnswer
     ensures { λ r. ⌜ emulator.deviceReport m r (now (memory .exit)) (now (output .exit))
-        ≡ emulation (variantOf «with_devices») m c (now (memory .entry)) budget (now (input .entry)) (now (output .entry)) ⌝ }
+        ≡ emulation (variantOf devices) m c (now (memory .entry)) budget (now (input .entry)) (now (output .entry)) ⌝ }
 {
-    if with_devices {
+    if devices {
         return emulator::emulate_devices(memory, m, c, budget, input, output);
     }
     let answer = emulator::emulate(memory, m, budget);
@@ -72,7 +72,7 @@ fn evaluate_twin(
 
 // The evaluator, by the entry of its variant; without devices nothing is read or printed.
 fn evaluate_variant(
-    with_devices: bool,
+    devices: bool,
     memory: &mut [u16],
     registers: Registers,
     budget: u64,
@@ -81,9 +81,9 @@ fn evaluate_variant(
     output: &mut [u8],
 ) -> evaluator::DeviceAnswer
     ensures { λ r. ⌜ evaluator.deviceReport r (now (memory .exit)) (now (rows .exit)) (now (output .exit))
-        ≡ evaluation (variantOf «with_devices») (registers .values) (now (memory .entry)) budget (now (rows .entry)) (now (input .entry)) (now (output .entry)) ⌝ }
+        ≡ evaluation (variantOf devices) (registers .values) (now (memory .entry)) budget (now (rows .entry)) (now (input .entry)) (now (output .entry)) ⌝ }
 {
-    if with_devices {
+    if devices {
         return evaluate_twin(memory, registers, budget, rows, input, output);
     }
     let answer = evaluate_shipped(memory, registers, budget, rows);
@@ -96,7 +96,7 @@ fn evaluate_variant(
 
 // Emulator and evaluator, each on its own memory and output.
 pub fn run_both(
-    with_devices: bool,
+    devices: bool,
     first: &mut [u16],
     second: &mut [u16],
     m: Machine,
@@ -108,13 +108,13 @@ pub fn run_both(
     left: &mut [u8],
     right: &mut [u8],
 ) -> Both
-    ensures { λ r. ⌜ Together (variantOf «with_devices») m c (registers .values) (now (first .entry)) (now (second .entry)) budget (now (rows .entry))
+    ensures { λ r. ⌜ Together (variantOf devices) m c (registers .values) (now (first .entry)) (now (second .entry)) budget (now (rows .entry))
         (now (input .entry)) (now (left .entry)) (now (right .entry))
         (emulator.deviceReport m (r .emulated) (now (first .exit)) (now (left .exit)))
         (evaluator.deviceReport (r .evaluated) (now (second .exit)) (now (rows .exit)) (now (right .exit))) ⌝ }
 {
-    let emulated = emulate_variant(with_devices, first, m, c, budget, input, left);
-    let evaluated = evaluate_variant(with_devices, second, registers, budget, rows, input, right);
+    let emulated = emulate_variant(devices, first, m, c, budget, input, left);
+    let evaluated = evaluate_variant(devices, second, registers, budget, rows, input, right);
     Both {
         emulated: emulated,
         evaluated: evaluated,

@@ -16,6 +16,7 @@ use Rattle.machine_state.specs.Interrupt.{testedIf}
 use Rattle.machine_state.proofs.Keeps.{pc-good}
 use Rattle.machine_run.specs.Step.{execute, makesTest, stepWith}
 use Rattle.machine_run.proofs.Tested.{tested-by-op}
+use Rattle.machine_run.proofs.Advances.{device-six}
 use Rattle.machine_console.specs.Console.{Console, deviceStep}
 use Rattle.rows_cycles.specs.Cycle.{cycle}
 use Rattle.text_declaration.specs.Rows.{Description}
@@ -28,7 +29,6 @@ use Rattle.shipped_rows.proofs.Places.{Work, Fit, inPlaces, withI, with
 use Rattle.shipped_rows.proofs.Unnoted.{cycle-unnoted}
 use Rattle.shipped_rows.proofs.Ends.{Ends, acts, jumps, branches, Tested}
 use Rattle.shipped_rows.proofs.Working.{op-is}
-use Rattle.shipped_rows.proofs.DeviceWords.{device-six}
 use Rattle.shipped_rows.proofs.DeviceKeeps.{after-flags}
 use Rattle.shipped_rows.proofs.Machines.{testOf, forDevices, stepOf, FlagsOf, Sound}
 use Rattle.shipped_rows.proofs.Interrupts.{rows-test, ends-iot, ends-device}
@@ -87,7 +87,7 @@ device-word plain h f device = absurd (false≢true device)
 device-word devices {x} {w} h f device =
     let n : ℕ = i devices h f in
     fetches devices h f
-    (jumps (under (iot-address devices)) (op-is devices (x .devices) (counted devices h f) (fetched devices h f) 6 ∙ device-six n device)
+    (jumps (under (iot-address devices)) (op-is devices (x .devices) (counted devices h f) (fetched devices h f) 6 ∙ ap (λ (k : ℕ). eqb k 6) (device-six n device))
     (ends-device device (counted-good devices h f) (fetched-fit devices h f) (h .flags) (rows-test devices (after-flags n (x .state .lac) (h .flags)))))
 
 ends-step : (v : Variant) {x : Console} {w : Work} → Sound v x → Fit w

@@ -2,22 +2,20 @@
 -- arrives need fit KEY.BYTE.
 -- Assumes nothing.
 use mathlib.Core.List.{List, [], _∷_}
-use Prim.Native.Nat.{ℕ, _^_, _<_}
+use Prim.Native.Nat.{ℕ, _<_}
 use lib.Bits.{or-lt}
-use lib.Dec.{lit≤, lit<}
+use lib.Dec.{lit<}
 use Rattle.word.specs.Choice.{on, pick}
-use Rattle.word.specs.Word.{wordBits}
 use Rattle.word.proofs.Choice.{pick-either}
 use Rattle.word.proofs.Next.{next-lt}
-use Rattle.word.proofs.Parts.{withBits-lt}
 use Rattle.devices.specs.declared.Devices.{Devices}
 use Rattle.devices.specs.Devices.{received, arrived, risen, begun}
-use Rattle.machine_state.specs.State.{State, Good, lacBits, word}
+use Rattle.machine_state.specs.State.{State, Good, word}
 use Rattle.machine_state.specs.Instruction.{isDevice}
-use Rattle.machine_state.proofs.Lac.{withAc-lt}
-use Rattle.machine_state.proofs.Keeps.{lac-good, pc-good, request-good, interrupt-good}
+use Rattle.machine_state.proofs.Keeps.{pc-good, request-good, interrupt-good}
 use Rattle.machine_run.proofs.Keeps.{stepWith-good}
-use Rattle.machine_console.specs.Instructions.{skipsOnFlag, kcc, krs, tcf, lacAfter, devicesAfter, stateAfter}
+use Rattle.machine_console.proofs.Keeps.{state-good}
+use Rattle.machine_console.specs.Instructions.{kcc, tcf, devicesAfter}
 use Rattle.machine_console.specs.Console.{Console, console, line, lineTest, deviceStep, consoleStep}
 
 pub record Flags (c : Devices) : Type 0 where
@@ -44,24 +42,12 @@ after-flags i lac f =
     let Bit : (ℕ → Type 0) = (λ (x : ℕ). x < 2) in
     record { keyboard = pick-either Bit (kcc i) (lit< tt) (f .keyboard); printer = pick-either Bit (tcf i) (lit< tt) (f .printer) }
 
-lacAfter-lt : (i : ℕ) (c : Devices) {lac : ℕ} → lac < 2 ^ lacBits → lacAfter i c lac < 2 ^ lacBits
-unfolding lacAfter
-lacAfter-lt i c h =
-    let Narrow : (ℕ → Type 0) = (λ (x : ℕ). x < 2 ^ lacBits) in
-    let cleared = pick-either Narrow (kcc i) (withAc-lt 0 h) h in
-    pick-either Narrow (krs i) (withBits-lt lacBits 5 12 (lit≤ tt) (lit< tt) _ cleared) cleared
-
-pub after-good : (i : ℕ) (c : Devices) {s : State} → Good s → Good (stateAfter i c s)
-unfolding stateAfter
-after-good i c {s} g =
-    pc-good (pick-either (λ (x : ℕ). x < 2 ^ wordBits) (skipsOnFlag i c) (next-lt (s .pc)) (g .pc)) (lac-good (lacAfter-lt i c (g .lac)) g)
-
 device-fits : {x : Console} → Fits x → Fits (deviceStep x)
 unfolding deviceStep
 device-fits {x} h =
     let i : ℕ = word (x .state .pc) (x .state) in
     let flags = after-flags i (x .state .lac) (h .flags) in
-    record { good = lineTest-good flags (after-good i (x .devices) (pc-good (next-lt (x .state .pc)) (h .good))); flags = flags }
+    record { good = lineTest-good flags (state-good i (x .devices) (pc-good (next-lt (x .state .pc)) (h .good))); flags = flags }
 
 pub console-fits : {x : Console} → Fits x → Fits (consoleStep x)
 unfolding consoleStep

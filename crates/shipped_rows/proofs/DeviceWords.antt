@@ -1,27 +1,19 @@
--- The words of keyboard and teleprinter: each is of op 6, and neither 6001 nor 6002; every other word leaves machine and devices as they are; and none both reads and prints.
+-- The words of keyboard and teleprinter: each is neither 6001 nor 6002; every other word leaves machine and devices as they are; and none both reads and prints.
 -- Assumes nothing.
 use mathlib.Core.Path.{_≡_, refl, ap, ap₂, _∙_}
 use mathlib.Core.Bool.{Bool, true, false, _&&_, _||_}
-use Prim.Native.Nat.{ℕ, _/_}
-use native.Mathlib.Omega.{arith}
+use Prim.Native.Nat.{ℕ}
 use lib.Bits.{bitOr}
 use lib.Dec.{eqb}
-use borrow.Author.Tests.{eq-eqb, eqb-true}
+use borrow.Author.Tests.{eqb-true}
 use Rattle.laws.proofs.Tests.{by-test, not-so}
 use Rattle.laws.proofs.Joined.{either}
 use Rattle.word.specs.Choice.{on, pick}
 use Rattle.word.specs.Word.{next}
 use Rattle.devices.specs.declared.Devices.{Devices}
 use Rattle.machine_state.specs.State.{State, withLac, withPc, withAc}
-use Rattle.machine_state.specs.Instruction.{op, isDevice}
+use Rattle.machine_state.specs.Instruction.{isDevice}
 use Rattle.machine_console.specs.Instructions.{kcc, krs, tcf, tpc, acByte, withAcByte, lacAfter, devicesAfter, stateAfter}
-
--- op 6
-pub device-six : (i : ℕ) → isDevice i ≡ true → eqb (op i) 6 ≡ true
-device-six i e =
-    either (eqb (i / 8) 0o603) (eqb (i / 8) 0o604) e
-    (λ t. let h = eqb-true (i / 8) 0o603 t in eq-eqb (op i) 6 (omega (arith, h)))
-    (λ t. let h = eqb-true (i / 8) 0o604 t in eq-eqb (op i) 6 (omega (arith, h)))
 
 -- a word of a device isn't one of none
 pub device-not : (i n : ℕ) → isDevice n ≡ false → isDevice i ≡ true → eqb i n ≡ false

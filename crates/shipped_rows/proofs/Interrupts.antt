@@ -14,6 +14,7 @@ use Rattle.machine_state.specs.Interrupt.{interrupted, interruptTest, testedIf,
 use Rattle.machine_state.proofs.Keeps.{enable-good, request-good}
 use Rattle.machine_console.specs.Instructions.{devicesAfter, stateAfter}
 use Rattle.machine_console.specs.Console.{line, lineTest}
+use Rattle.machine_console.proofs.Keeps.{state-good}
 use Rattle.shipped_rows.specs.Variant.{Variant, plain, devices}
 use Rattle.shipped_rows.proofs.Tree.{rows·taken, rows·requested, rows·enabled, rows·interrupt, rows·iof, rows·iot}
 use Rattle.shipped_rows.proofs.Labels.{at-the-end, interrupt-opr}
@@ -22,7 +23,7 @@ use Rattle.shipped_rows.proofs.Ends.{Ends, past, acts, idles, jumps, st
 use Rattle.shipped_rows.proofs.Working.{i-is}
 use Rattle.shipped_rows.proofs.Bits.{of-bit, negated, on-flag}
 use Rattle.shipped_rows.proofs.DeviceWords.{device-not}
-use Rattle.shipped_rows.proofs.DeviceKeeps.{Flags, line-lt, after-flags, after-good}
+use Rattle.shipped_rows.proofs.DeviceKeeps.{Flags, line-lt}
 use Rattle.shipped_rows.proofs.Machines.{testOf, forDevices, FlagsOf}
 use Rattle.shipped_rows.proofs.Devices.{ends-words, ends-others}
 
@@ -88,4 +89,4 @@ ends-device {c} {o} {w} device g f h tested =
     (stays (at-the-end (rows·iof devices)) not-ion
     (idles (i-is devices c o w iof ∙ device-not (w .i) iof refl device)
     (ends-words c o w h
-    (jumps (interrupt-opr devices) refl (tested .ends (stateAfter (w .i) c o) w (after-good (w .i) c g) f)))))
+    (jumps (interrupt-opr devices) refl (tested .ends (stateAfter (w .i) c o) w (state-good (w .i) c g) f)))))

@@ -1,5 +1,6 @@
 -- The machines of which a description is shipped, and the registers of each. Texts, rows and the claim go by the variant.
 -- Assumes nothing.
+use mathlib.Core.Bool.{Bool, true, false}
 use mathlib.Core.List.{List, [], _++_}
 use Prim.Native.Nat.{ℕ}
 use Rattle.characters.specs.Named.{Named}
@@ -13,6 +14,11 @@ pub data Variant : Type 0 where
   plain : Variant
   -- with keyboard and teleprinter: document 02, Two
   devices : Variant
+
+-- the variant with devices, or without
+abbrev pub variantOf : Bool → Variant
+variantOf true = devices
+variantOf false = plain
 
 -- the machine registers that a variant has besides the six, and their values: "the emulator has them, after the six in this order, only with devices"
 abbrev pub furtherRegisters : Variant → List Named

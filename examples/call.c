@@ -1,4 +1,7 @@
-/* The entries from C: the day's image run by the emulator, and by the evaluator of the shipped description; a description of our own, read and run. */
+/*
+ * The entries from C: the day's image run by the emulator, and by the evaluator of the shipped description; a description of our own, read and run; and a program that
+ * answers at the teleprinter, on the machine with devices and on the twin of the shipped description.
+ */
 #include <guavachisel.h>
 #include <inttypes.h>
 #include <stdio.h>
@@ -26,7 +29,9 @@ static void load(void)
 
 static const char *ended(const guavachisel_outcome *outcome)
 {
-    return outcome->reason == GUAVACHISEL_HALTED ? "halted" : "spent";
+    static const char *const reasons[] = {"refused", "halted", "spent", "paper"};
+
+    return reasons[outcome->reason];
 }
 
 static void print_rows(const uint8_t *rows, uint64_t listed)
@@ -82,6 +87,45 @@ static void evaluate_counter(void)
     print_rows(rows, outcome.rows);
 }
 
+/* KSF; JMP .-1; KRB; TLS; JMP .-4: what is typed is printed */
+static void load_echo(void)
+{
+    memory[0200] = 06031;
+    memory[0201] = 05200;
+    memory[0202] = 06036;
+    memory[0203] = 06046;
+    memory[0204] = 05200;
+}
+
+static void echo(void)
+{
+    static const uint8_t typed[] = {'H', 'E', 'L', 'L', 'O'};
+    guavachisel_machine machine = {.pc = 0200, .run = 1};
+    guavachisel_devices devices = {0};
+    guavachisel_outcome outcome;
+    uint8_t paper[4];
+
+    /* the paper has room for four: the run ends when it is full, and the last byte typed stands in the keyboard */
+    load_echo();
+    guavachisel_emulate_devices(memory, GUAVACHISEL_WORDS, &machine, &devices, 1000, typed, sizeof typed, paper, sizeof paper, &outcome);
+    printf("emulate_devices: %" PRIu64 " steps, %s, %" PRIu64 " read, printed %.*s\n", outcome.steps, ended(&outcome), outcome.read, (int)outcome.printed, (const char *)paper);
+}
+
+static void echo_by_rows(void)
+{
+    static const uint8_t typed[] = {'H', 'E', 'L', 'L', 'O'};
+    guavachisel_registers registers = {{0, 0200, 1}};
+    guavachisel_outcome outcome;
+    uint8_t rows[GUAVACHISEL_ROWS], paper[4];
+
+    guavachisel_shipped(GUAVACHISEL_DEVICES, shipped, sizeof shipped, &outcome);
+    load_echo();
+    guavachisel_evaluate_devices(shipped, (size_t)outcome.answer, memory, GUAVACHISEL_WORDS, &registers, 1000, rows, GUAVACHISEL_ROWS, typed, sizeof typed, paper,
+                                 sizeof paper, &outcome);
+    printf("evaluate_devices: %" PRIu64 " cycles, %s, %" PRIu64 " read, printed %.*s", outcome.steps, ended(&outcome), outcome.read, (int)outcome.printed, (const char *)paper);
+    print_rows(rows, outcome.rows);
+}
+
 int main(void)
 {
     if (guavachisel_version() != GUAVACHISEL_VERSION) {
@@ -91,5 +135,7 @@ int main(void)
     emulate();
     evaluate_shipped();
     evaluate_counter();
+    echo();
+    echo_by_rows();
     return 0;
 }

@@ -1,4 +1,5 @@
-//! The entries from Rust: the day's image run by the emulator, and by the evaluator of the shipped description; a description of our own, read and run.
+//! The entries from Rust: the day's image run by the emulator, and by the evaluator of the shipped description; a description of our own, read and run; and a program
+//! that answers at the teleprinter, on the machine with devices and on the twin of the shipped description.
 
 /// guavachisel_machine
 #[repr(C)]
@@ -10,6 +11,17 @@ struct Machine {
     interrupt_enable: u16,
     interrupt_request: u16,
     switches: u16,
+}
+
+/// guavachisel_devices
+#[repr(C)]
+#[derive(Default)]
+struct Devices {
+    key_byte: u16,
+    keyboard_flag: u16,
+    printer_flag: u16,
+    print_byte: u16,
+    print_mark: u16,
 }
 
 /// guavachisel_outcome
@@ -30,18 +42,28 @@ struct Outcome {
 const VERSION: u64 = 2;
 const WORDS: usize = 4096;
 const ROWS: usize = 128;
-const HALTED: u64 = 1;
 const REFUSED_VALUE: u64 = 13;
 const PLAIN: u64 = 0;
+const DEVICES: u64 = 1;
 
 extern "C" {
     fn guavachisel_version() -> u64;
     fn guavachisel_emulate(memory: *mut u16, words: usize, machine: *mut Machine, budget: u64, outcome: *mut Outcome);
+    #[rustfmt::skip]
+    fn guavachisel_emulate_devices(
+        memory: *mut u16, words: usize, machine: *mut Machine, devices: *mut Devices, budget: u64,
+        input: *const u8, bytes: usize, output: *mut u8, room: usize, outcome: *mut Outcome,
+    );
     fn guavachisel_read(text: *const u8, bytes: usize, outcome: *mut Outcome);
     #[rustfmt::skip]
     fn guavachisel_evaluate(
         text: *const u8, bytes: usize, memory: *mut u16, words: usize, registers: *mut [u16; 16], budget: u64,
         rows: *mut u8, places: usize, outcome: *mut Outcome,
+    );
+    #[rustfmt::skip]
+    fn guavachisel_evaluate_devices(
+        text: *const u8, bytes: usize, memory: *mut u16, words: usize, registers: *mut [u16; 16], budget: u64,
+        rows: *mut u8, places: usize, input: *const u8, input_bytes: usize, output: *mut u8, room: usize, outcome: *mut Outcome,
     );
     fn guavachisel_shipped(which: u64, text: *mut u8, room: usize, outcome: *mut Outcome);
 }
@@ -69,6 +91,26 @@ fn evaluate(text: &[u8], memory: &mut [u16], registers: &mut [u16; 16], budget: 
     outcome
 }
 
+#[rustfmt::skip]
+fn emulate_devices(memory: &mut [u16], machine: &mut Machine, devices: &mut Devices, budget: u64, input: &[u8], output: &mut [u8]) -> Outcome {
+    let mut outcome = Outcome::default();
+    unsafe {
+        guavachisel_emulate_devices(memory.as_mut_ptr(), memory.len(), machine, devices, budget,
+                                    input.as_ptr(), input.len(), output.as_mut_ptr(), output.len(), &mut outcome)
+    };
+    outcome
+}
+
+#[rustfmt::skip]
+fn evaluate_devices(text: &[u8], memory: &mut [u16], registers: &mut [u16; 16], budget: u64, rows: &mut [u8], input: &[u8], output: &mut [u8]) -> Outcome {
+    let mut outcome = Outcome::default();
+    unsafe {
+        guavachisel_evaluate_devices(text.as_ptr(), text.len(), memory.as_mut_ptr(), memory.len(), registers, budget, rows.as_mut_ptr(), rows.len(),
+                                     input.as_ptr(), input.len(), output.as_mut_ptr(), output.len(), &mut outcome)
+    };
+    outcome
+}
+
 /// A shipped description: its length is asked for first, with no room for it.
 fn shipped(which: u64) -> Vec<u8> {
     let mut outcome = Outcome::default();
@@ -85,8 +127,19 @@ fn image() -> [u16; WORDS] {
     memory
 }
 
+/// KSF; JMP .-1; KRB; TLS; JMP .-4: what is typed is printed
+fn echo() -> [u16; WORDS] {
+    let mut memory = [0; WORDS];
+    memory[0o200..0o205].copy_from_slice(&[0o6031, 0o5200, 0o6036, 0o6046, 0o5200]);
+    memory
+}
+
 fn ended(outcome: &Outcome) -> &'static str {
-    if outcome.reason == HALTED { "halted" } else { "spent" }
+    ["refused", "halted", "spent", "paper"][outcome.reason as usize]
+}
+
+fn printed<'a>(paper: &'a [u8], outcome: &Outcome) -> &'a str {
+    std::str::from_utf8(&paper[..outcome.printed as usize]).unwrap()
 }
 
 fn listed(rows: &[u8], outcome: &Outcome) -> String {
@@ -124,5 +177,15 @@ fn main() {
     registers[0] = 1;
     let outcome = evaluate(text, &mut memory, &mut registers, 100, &mut rows);
     print!("evaluate: {} cycles, {}, count {}", outcome.steps, ended(&outcome), registers[1]);
+    println!(", rows that acted last:{}", listed(&rows, &outcome));
+
+    // the paper has room for four: the run ends when it is full, and the last byte typed stands in the keyboard
+    let (mut machine, mut devices, mut paper) = (Machine { pc: 0o200, run: 1, ..Machine::default() }, Devices::default(), [0; 4]);
+    let outcome = emulate_devices(&mut echo(), &mut machine, &mut devices, 1000, b"HELLO", &mut paper);
+    println!("emulate_devices: {} steps, {}, {} read, printed {}", outcome.steps, ended(&outcome), outcome.read, printed(&paper, &outcome));
+    let (text, mut registers) = (shipped(DEVICES), [0; 16]);
+    registers[..3].copy_from_slice(&[0, 0o200, 1]);
+    let outcome = evaluate_devices(&text, &mut echo(), &mut registers, 1000, &mut rows, b"HELLO", &mut paper);
+    print!("evaluate_devices: {} cycles, {}, {} read, printed {}", outcome.steps, ended(&outcome), outcome.read, printed(&paper, &outcome));
     println!(", rows that acted last:{}", listed(&rows, &outcome));
 }

@@ -127,6 +127,25 @@ pub unread-bytes : (c : Devices) {l : List ℕ} → Bytes l → Bytes (unreadAft
 unfolding unreadAfter
 unread-bytes c {l} h = pick-either Bytes (on (c .keyboard)) h (rest-bytes l h)
 
+-- ---- the flags alone, whatever bytes arrive
+
+pub record Flags (c : Devices) : Type 0 where
+  pub keyboard : c .keyboard < 2
+  pub printer : c .printer < 2
+
+pub fit-flags : {c : Devices} → DevicesFit c → Flags c
+fit-flags f = record { keyboard = f .keyboard; printer = f .printer }
+
+received-flags : {c : Devices} (l : List ℕ) → Flags c → Flags (received c l)
+received-flags [] f = f
+received-flags (b ∷ l) f = record { keyboard = lit< tt; printer = f .printer }
+
+pub begun-flags : {c : Devices} (l : List ℕ) → Flags c → Flags (begun c l)
+unfolding begun risen arrived
+begun-flags {c} l f =
+    let g = pick-either Flags (on (c .keyboard)) f (received-flags l f) in
+    pick-either Flags (on (arrived c l .mark)) (record { keyboard = g .keyboard; printer = lit< tt }) g
+
 -- ---- widths by place
 
 -- the devices' registers fit, place by place; past the last there is none

@@ -15,7 +15,7 @@ use Rattle.devices.specs.Devices.{byteBits, DevicesFit}
 use Rattle.devices.specs.Session.{Session, goesOn}
 use Rattle.devices.specs.Session as session
 use Rattle.devices.specs.Held.{Bytes}
-use Rattle.devices.proofs.Starts.{begun-fit, unread-bytes}
+use Rattle.devices.proofs.Starts.{Flags, fit-flags, begun-fit, unread-bytes}
 use Rattle.machine_state.specs.State.{State, Good, lacBits, word, withPc, withAc}
 use Rattle.machine_state.specs.Instruction.{isDevice}
 use Rattle.machine_state.proofs.Keeps.{lac-good, pc-good, request-good, interrupt-good}
@@ -34,10 +34,15 @@ pub record SessionFit (x : Session Console) : Type 0 where
   pub engine : ConsoleFit (x .engine)
   pub unread : Bytes (x .unread)
 
-pub line-lt : {c : Devices} → DevicesFit c → line c < 2
+-- the machine's registers and words need no more of the devices than that their flags are bits
+pub record Flagged (x : Console) : Type 0 where
+  pub state : Good (x .state)
+  pub flags : Flags (x .devices)
+
+pub line-lt : {c : Devices} → Flags c → line c < 2
 line-lt {c} f = or-lt 1 (c .keyboard) (c .printer) (f .keyboard) (f .printer)
 
-pub lineTest-good : {c : Devices} {s : State} → DevicesFit c → Good s → Good (lineTest c s)
+lineTest-good : {c : Devices} {s : State} → Flags c → Good s → Good (lineTest c s)
 unfolding lineTest
 lineTest-good f g = interrupt-good (request-good (line-lt f) g)
 
@@ -54,13 +59,20 @@ lac-lt i c {lac} h =
     let small = pick-either Narrow (kcc i) (withAc-lt 0 h) h in
     pick-either Narrow (krs i) (read-lt cleared (bitOr (acByte cleared) (c .key)) small) small
 
+pub after-flags : (i lac : ℕ) {c : Devices} → Flags c → Flags (devicesAfter i lac c)
+unfolding devicesAfter
+after-flags i lac f =
+    let Bit : ℕ → Type 0 = λ (x : ℕ). x < 2 in
+    record { keyboard = pick-either Bit (kcc i) (lit< tt) (f .keyboard); printer = pick-either Bit (tcf i) (lit< tt) (f .printer) }
+
 pub devices-fit : (i lac : ℕ) {c : Devices} → DevicesFit c → DevicesFit (devicesAfter i lac c)
 unfolding devicesAfter
 devices-fit i lac {c} f =
+    let flags = after-flags i lac (fit-flags f) in
     record {
       key = f .key;
-      keyboard = pick-either (λ (x : ℕ). x < 2) (kcc i) (lit< tt) (f .keyboard);
-      printer = pick-either (λ (x : ℕ). x < 2) (tcf i) (lit< tt) (f .printer);
+      keyboard = flags .keyboard;
+      printer = flags .printer;
       print = pick-either (λ (x : ℕ). x < 2 ^ byteBits) (tpc i) (omega arith) (f .print);
       mark = pick-either (λ (x : ℕ). x < 2) (tpc i) (lit< tt) (f .mark);
     }
@@ -70,20 +82,36 @@ unfolding stateAfter
 state-good i c {s} g =
     pc-good (pick-either (λ (x : ℕ). x < 2 ^ wordBits) (skipsOnFlag i c) (next-lt (s .pc)) (g .pc)) (lac-good (lac-lt i c (g .lac)) g)
 
+device-flagged : {x : Console} → Flagged x → Flagged (deviceStep x)
+unfolding deviceStep
+device-flagged {x} f =
+    let i : ℕ = word (x .state .pc) (x .state) in
+    let left = after-flags i (x .state .lac) (f .flags) in
+    record { state = lineTest-good left (state-good i (x .devices) (pc-good (next-lt (x .state .pc)) (f .state))); flags = left }
+
+-- ---- a step with devices
+
+pub console-flagged : {x : Console} → Flagged x → Flagged (consoleStep x)
+unfolding consoleStep
+console-flagged {x} f =
+    pick-either Flagged (isDevice (word (x .state .pc) (x .state))) (device-flagged f)
+    (record { state = stepWith-good (lineTest (x .devices)) (λ s h. lineTest-good (f .flags) h) (f .state); flags = f .flags })
+
+fit-flagged : {x : Console} → ConsoleFit x → Flagged x
+fit-flagged f = record { state = f .state; flags = fit-flags (f .devices) }
+
 pub device-fit : {x : Console} → ConsoleFit x → ConsoleFit (deviceStep x)
 unfolding deviceStep
 device-fit {x} f =
-    let i : ℕ = word (x .state .pc) (x .state) in
-    let left = devices-fit i (x .state .lac) (f .devices) in
-    record { state = lineTest-good left (state-good i (x .devices) (pc-good (next-lt (x .state .pc)) (f .state))); devices = left }
-
--- ---- a step with devices, with its start, and a run
+    record { state = device-flagged (fit-flagged f) .state; devices = devices-fit (word (x .state .pc) (x .state)) (x .state .lac) (f .devices) }
 
 pub console-fit : {x : Console} → ConsoleFit x → ConsoleFit (consoleStep x)
 unfolding consoleStep
 console-fit {x} f =
     pick-either ConsoleFit (isDevice (word (x .state .pc) (x .state))) (device-fit f)
-    (record { state = stepWith-good (lineTest (x .devices)) (λ s h. lineTest-good (f .devices) h) (f .state); devices = f .devices })
+    (record { state = stepWith-good (lineTest (x .devices)) (λ s h. lineTest-good (fit-flags (f .devices)) h) (f .state); devices = f .devices })
+
+-- ---- with its start, and a run
 
 pub turn-fits : {x : Session Console} → SessionFit x → SessionFit (turn x)
 unfolding session.turn

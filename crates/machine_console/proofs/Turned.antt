@@ -18,7 +18,7 @@ use Rattle.runs.proofs.Counts.{steps-within}
 use Rattle.devices.specs.declared.Devices.{Devices}
 use Rattle.devices.specs.Devices.{DevicesFit, begun, unreadAfter}
 use Rattle.devices.specs.Session.{Session, goesOn, placeLeft}
-use Rattle.devices.proofs.Starts.{Settled, begun-settled, begun-fit, unread-bytes}
+use Rattle.devices.proofs.Starts.{fit-flags, Settled, begun-settled, begun-fit, unread-bytes}
 use Rattle.machine_state.specs.State.{State, Good, word, withRun, withRequest}
 use Rattle.machine_state.specs.Instruction.{isDevice}
 use Rattle.machine_state.proofs.Keeps.{request-good}
@@ -192,7 +192,7 @@ module _ (room : ℕ) where
     tested : makesTest (word (s .pc) s) ≡ true → Turned budget done x (made (stretchFrom true (budget - done) done refresh))
     unfolding refresh
     tested t =
-        let g = request-good (line-lt fit) good in
+        let g = request-good (line-lt (fit-flags fit)) good in
         turned (budget - done) refresh (omega (arith, h)) (omega arith) g one
         (next-turn (budget - done) done x (standing refresh c l (x .printed)) (omega (arith, h)) e e
         (tested-turn s (x .engine .devices) (x .unread) (x .printed) t)

@@ -11,6 +11,7 @@ use Rattle.word.proofs.Choice.{pick-either}
 use Rattle.word.proofs.Next.{next-lt}
 use Rattle.devices.specs.declared.Devices.{Devices}
 use Rattle.devices.specs.Devices.{byteBits, DevicesFit}
+use Rattle.devices.proofs.Starts.{fit-flags}
 use Rattle.machine_state.specs.State.{State, Good, word, withLac, withPc, withRequest, withAc}
 use Rattle.machine_state.specs.Interrupt.{interruptTest}
 use Rattle.machine_console.specs.Instructions.{skipsOnFlag, kcc, krs, tcf, tpc, acByte, withAcByte, lacAfter, devicesAfter, stateAfter}
@@ -76,5 +77,5 @@ module _ (s : State) (c : Devices) (i n k a r : ℕ) (d : Devices) (fetched : i 
       let within : n < 2 ^ wordBits = subst (λ (z : ℕ). z < 2 ^ wordBits) (sym increased) (next-lt (s .pc)) in
       let size = g .memory .size in
       let skip = subst (λ (z : ℕ). z < 2 ^ wordBits) (sym skipped) (pick-either (λ (z : ℕ). z < 2 ^ wordBits) (skipsOnFlag i c) (next-lt n) within) in
-      let flags = subst (λ (z : ℕ). z < 2) (sym requested) (line-lt (subst DevicesFit (sym changed) (devices-fit i (s .lac) f))) in
+      let flags = subst (λ (z : ℕ). z < 2) (sym requested) (line-lt (fit-flags (subst DevicesFit (sym changed) (devices-fit i (s .lac) f)))) in
       (omega (arith, size), (skip, (g .enable, flags)))

@@ -11,6 +11,7 @@ use Rattle.word.proofs.Choice.{case-true, case-false, pick-either}
 use Rattle.runs.specs.Run.{Ended, ended}
 use Rattle.devices.specs.declared.Devices.{Devices}
 use Rattle.devices.specs.Devices.{DevicesFit}
+use Rattle.devices.proofs.Starts.{fit-flags}
 use Rattle.machine_state.specs.State.{State, Good, word, withRequest}
 use Rattle.machine_state.proofs.Keeps.{request-good}
 use Rattle.machine_run.specs.Step.{makesTest}
@@ -28,7 +29,7 @@ module _ (s : State) (c : Devices) (done budget i : ℕ) (b : Bool) (flags reque
 
   pub work-begins : Good s → DevicesFit c → done < budget → Good (withRequest request s) × (done ≤ end)
   work-begins g f h = (
-    request-good (subst (λ (r : ℕ). r < 2) (sym refreshing) (pick-either (λ (r : ℕ). r < 2) b (line-lt f) (g .request))) g,
+    request-good (subst (λ (r : ℕ). r < 2) (sym refreshing) (pick-either (λ (r : ℕ). r < 2) b (line-lt (fit-flags f)) (g .request))) g,
     subst (λ (n : ℕ). done ≤ n) (sym ends) (pick-either (λ (n : ℕ). done ≤ n) b (omega (arith, h)) (omega arith)),
   )
 

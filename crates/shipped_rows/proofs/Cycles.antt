@@ -29,7 +29,7 @@ use Rattle.shipped_rows.proofs.Places.{Work, Fit, inPlaces, withI, with
 use Rattle.shipped_rows.proofs.Unnoted.{cycle-unnoted}
 use Rattle.shipped_rows.proofs.Ends.{Ends, acts, jumps, branches, Tested}
 use Rattle.shipped_rows.proofs.Working.{op-is}
-use Rattle.shipped_rows.proofs.DeviceKeeps.{after-flags}
+use Rattle.machine_console.proofs.Keeps.{after-flags}
 use Rattle.shipped_rows.proofs.Machines.{testOf, forDevices, stepOf, FlagsOf, Sound}
 use Rattle.shipped_rows.proofs.Interrupts.{rows-test, ends-iot, ends-device}
 use Rattle.shipped_rows.proofs.Addresses.{ends-address}

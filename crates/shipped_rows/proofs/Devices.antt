@@ -21,7 +21,7 @@ use Rattle.shipped_rows.proofs.Places.{Work, inPlaces}
 use Rattle.shipped_rows.proofs.Ends.{Ends, seen, moved}
 use Rattle.shipped_rows.proofs.Bits.{Flag, of-test, of-bit, flag-and, flag-or, on-flag}
 use Rattle.shipped_rows.proofs.DeviceWords.{devices-stay, state-stays, prints-found}
-use Rattle.shipped_rows.proofs.DeviceKeeps.{Flags}
+use Rattle.devices.proofs.Starts.{Flags}
 use Rattle.shipped_rows.proofs.Machines.{forDevices, FlagsOf}
 
 -- a word that is one of two, as the rows test it

@@ -23,7 +23,8 @@ use Rattle.shipped_rows.proofs.Ends.{Ends, past, acts, idles, jumps, st
 use Rattle.shipped_rows.proofs.Working.{i-is}
 use Rattle.shipped_rows.proofs.Bits.{of-bit, negated, on-flag}
 use Rattle.shipped_rows.proofs.DeviceWords.{device-not}
-use Rattle.shipped_rows.proofs.DeviceKeeps.{Flags, line-lt}
+use Rattle.devices.proofs.Starts.{Flags}
+use Rattle.machine_console.proofs.Keeps.{line-lt}
 use Rattle.shipped_rows.proofs.Machines.{testOf, forDevices, FlagsOf}
 use Rattle.shipped_rows.proofs.Devices.{ends-words, ends-others}
 

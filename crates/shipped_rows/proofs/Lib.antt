@@ -7,7 +7,6 @@ mod Ends
 mod Working
 mod Bits
 mod DeviceWords
-pub mod DeviceKeeps
 pub mod Machines
 mod Devices
 mod Interrupts

@@ -12,7 +12,8 @@ use Rattle.machine_run.specs.Step.{stepWith, step}
 use Rattle.machine_run.proofs.Keeps.{step-good}
 use Rattle.machine_console.specs.Console.{Console, console, lineTest, deviceStep, consoleStep}
 use Rattle.shipped_rows.specs.Variant.{Variant, plain, devices}
-use Rattle.shipped_rows.proofs.DeviceKeeps.{Flags, Fits, console-fits}
+use Rattle.devices.proofs.Starts.{Flags}
+use Rattle.machine_console.proofs.Keeps.{Flagged, console-flagged}
 
 abbrev pub testOf : Variant → Devices → State → State
 testOf plain c = interruptTest
@@ -46,5 +47,5 @@ pub record Sound (v : Variant) (x : Console) : Type 0 where
 pub step-sound : (v : Variant) {x : Console} → Sound v x → Sound v (stepOf v x)
 step-sound plain h = record { good = step-good (h .good); flags = h .flags }
 step-sound devices {x} h =
-    let after = subst Fits (sym (device-step x)) (console-fits (record { good = h .good; flags = h .flags })) in
-    record { good = after .good; flags = after .flags }
+    let after = subst Flagged (sym (device-step x)) (console-flagged (record { state = h .good; flags = h .flags })) in
+    record { good = after .state; flags = after .flags }

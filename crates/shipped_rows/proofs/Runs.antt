@@ -31,7 +31,7 @@ use Rattle.shipped_rows.specs.Variant.{Variant, plain, devices}
 use Rattle.shipped_rows.specs.Shipped.{shipped}
 use Rattle.shipped_rows.proofs.Accepted.{shipped-is}
 use Rattle.shipped_rows.proofs.Places.{Work, Fit, inPlaces}
-use Rattle.shipped_rows.proofs.DeviceKeeps.{begun-flags}
+use Rattle.devices.proofs.Starts.{begun-flags}
 use Rattle.shipped_rows.proofs.Machines.{stepOf, device-step, Sound, step-sound}
 use Rattle.shipped_rows.proofs.Cycles.{cycles-step}
 

@@ -78,12 +78,19 @@ same-length : tie.Need-same-length Inv-loop μ-loop
 same-length c = c .before .before .loop .inv .1 ∙ sym (c .before .before .before .before .before .before .pre .0 .memory .size)
 
 same-length-2 : tie.Need-same-length-2 Inv-loop μ-loop
-same-length-2 c = c .before .before .loop .inv .0 .size
+same-length-2 c = c .before .before .loop .inv .0 .printing .size
 
 returns : tie.Need-returns Inv-loop μ-loop
 returns c =
     let k = c .before .before .loop .inv .0 in
-    record { same = loop-ends k (c .before .goes-on .ensures) (c .if1 .left); size = k .size; buffer = k .buffer; read = k .most-read; printed = k .most-printed }
+    let p = k .printing in
+    record {
+      same = loop-ends k (c .before .goes-on .ensures) (c .if1 .left);
+      size = p .size;
+      buffer = p .buffer;
+      read = k .most-read;
+      printed = omega (arith, p .count, p .size);
+    }
 
 pub run-devices-spec : {M : Type 1} → statement M
 run-devices-spec =

@@ -62,12 +62,7 @@ fit-lines : map entry (
 unfolding run runEnd same numberAt field hasFields find areOctets isInput wordEntry registerEntry budgetEntry inputEntry said entry
 fit-lines = refl
 
-un-- a byte more than n
-abbrev spaced : ℕ → List ℕ
-spaced zero = ascii "001"
-spaced (suc n) = ascii "001 " ++ spaced n
-
-fit-lines : map entry (
+unfit-lines : map entry (
     ascii "LAC\t20000"
     ∷ ascii "LAC\t0000"
     ∷ ascii "PC\t00200"

@@ -1,22 +1,23 @@
 -- What the code holds: input by the number of bytes read, output by the number printed.
 -- Assumes nothing.
-use mathlib.Core.Path.{_≡_, refl, sym, ap, _∙_}
+use mathlib.Core.Path.{_≡_, refl, sym, ap, ap₂, _∙_}
 use mathlib.Core.Bool.{Bool, true, false, not, _&&_}
 use mathlib.Core.List.{List, [], _∷_, _++_}
-use Prim.Native.Nat.{ℕ, suc, _+_, _≤_, _<_}
+use Prim.Native.Nat.{ℕ, suc, _+_, _-_, _≤_, _<_}
 use native.Mathlib.Numerals.{add-one}
 use native.Mathlib.Omega.{arith}
 use lib.Dec.{eqb, ltb}
-use lib.ListN.{length, drop, take, getD, set, drop-of-length-le, length-append}
-use lib.Seq.{drop-cons, take-append-seam, drop-drop, set-append-seam, append-snoc}
+use lib.ListN.{length, drop, take, getD, set, drop-of-length-le, length-append, length-drop}
+use lib.Seq.{drop-cons, take-append-seam, drop-drop, set-append-seam, append-snoc, length-take-le}
 use borrow.Author.Tests.{ltb-true, ltb-false, ne-eqb}
-use Rattle.laws.proofs.Tests.{by-test}
+use Rattle.laws.proofs.Tests.{by-test, by-case}
 use Rattle.laws.proofs.Joined.{and-left, and-right}
 use Rattle.word.specs.Choice.{on, pick}
-use Rattle.word.proofs.Choice.{case-true, case-false}
+use Rattle.word.proofs.Choice.{case-true, case-false, pick-either}
 use Rattle.devices.specs.declared.Devices.{Devices}
 use Rattle.devices.specs.Devices.{received, arrived, unreadAfter, risen, begun, written}
-use Rattle.devices.specs.Held.{BegunBy, PrintedBy}
+use Rattle.devices.specs.Session.{Exchange, exchanged}
+use Rattle.devices.specs.Held.{BegunBy, PrintedBy, session}
 use Rattle.devices.proofs.Starts.{withKey, withPrinter}
 
 -- ---- input: `read` bytes of it have arrived
@@ -37,7 +38,7 @@ unfolding arrived
 arrived-at c input read = ap (pick (on (c .keyboard)) c) (received-at c input read)
 
 -- the bytes read after a start
-abbrev readAfter : Devices → List ℕ → ℕ → ℕ
+abbrev pub readAfter : Devices → List ℕ → ℕ → ℕ
 readAfter c input read = pick (on (c .keyboard)) read (pick (ltb read (length input)) (read + 1) read)
 
 rest-at : (input : List ℕ) (read : ℕ) → drop 1 (drop read input) ≡ drop (pick (ltb read (length input)) (read + 1) read) input
@@ -47,7 +48,7 @@ rest-at input read =
     (λ t. let none = drop-of-length-le input (ltb-false read (length input) t) in
     ap (drop 1) none ∙ sym none ∙ ap (λ (n : ℕ). drop n input) (sym (case-false (ltb read (length input)) (read + 1) read t)))
 
-unread-at : (c : Devices) (input : List ℕ) (read : ℕ) → unreadAfter c (drop read input) ≡ drop (readAfter c input read) input
+pub unread-at : (c : Devices) (input : List ℕ) (read : ℕ) → unreadAfter c (drop read input) ≡ drop (readAfter c input read) input
 unfolding unreadAfter
 unread-at c input read = go (on (c .keyboard))
   where
@@ -55,6 +56,11 @@ unread-at c input read = go (on (c .keyboard))
         → pick b (drop read input) (drop 1 (drop read input)) ≡ drop (pick b read (pick (ltb read (length input)) (read + 1) read)) input
     go true = refl
     go false = rest-at input read
+
+pub read-within : (c : Devices) (input : List ℕ) (read : ℕ) → read ≤ length input → readAfter c input read ≤ length input
+read-within c input read h =
+    pick-either (λ (n : ℕ). n ≤ length input) (on (c .keyboard)) h
+    (by-case (λ (n : ℕ). n ≤ length input) (ltb read (length input)) (λ t. omega (arith, ltb-true read (length input) t)) (λ t. h))
 
 -- ---- the start, as the code makes it
 
@@ -137,3 +143,17 @@ print-at p output b h =
 pub printed-at : (p output : List ℕ) → take (length p) (written p output) ≡ p
 unfolding written
 printed-at p output = take-append-seam p (drop (length p) output)
+
+-- ---- what the numbers say of a call, at its end
+
+back : (n k : ℕ) → k ≤ n → n - (n - k) ≡ k
+back n k h = omega (arith, h)
+
+pub exchange-is : {A : Type 0} (x : A) (read printed : ℕ) (input output after : List ℕ) → read ≤ length input → printed ≤ length after
+    → after ≡ written (take printed after) output
+    → _≡_ {A = Exchange} (record { read = read; printed = printed; output = after }) (exchanged input output (session x read printed input after))
+exchange-is x read printed input output after h q e =
+    ap₂ (λ (n m : ℕ). record { read = n; printed = m; output = after })
+    (sym (ap (λ (n : ℕ). length input - n) (length-drop read input) ∙ back (length input) read h))
+    (sym (length-take-le printed after q))
+    ∙ ap (λ (l : List ℕ). record { read = length input - length (drop read input); printed = length (take printed after); output = l }) e

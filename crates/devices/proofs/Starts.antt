@@ -3,14 +3,14 @@
 use mathlib.Core.Path.{_≡_, refl, sym, ap, _∙_, subst}
 use mathlib.Core.Bool.{Bool, true, false}
 use mathlib.Core.List.{List, [], _∷_, _++_}
-use Prim.Native.Nat.{ℕ, suc, _<_}
+use Prim.Native.Nat.{ℕ, zero, suc, _^_, _<_}
 use lib.ListN.{drop, getD}
 use lib.Dec.{lit<}
 use Rattle.laws.proofs.Tests.{by-test}
 use Rattle.word.specs.Choice.{on, pick}
 use Rattle.word.proofs.Choice.{pick-either, case-true, case-false}
 use Rattle.devices.specs.declared.Devices.{Devices}
-use Rattle.devices.specs.Devices.{DevicesFit, received, arrived, unreadAfter, risen, begun, printedAfter}
+use Rattle.devices.specs.Devices.{deviceWidths, deviceValues, DevicesFit, received, arrived, unreadAfter, risen, begun, printedAfter}
 use Rattle.devices.specs.Held.{Bytes}
 
 -- devices with another printer flag and mark
@@ -107,3 +107,14 @@ rest-bytes (b ∷ l) h = record { each = λ k. h .each (suc k) }
 pub unread-bytes : (c : Devices) {l : List ℕ} → Bytes l → Bytes (unreadAfter c l)
 unfolding unreadAfter
 unread-bytes c {l} h = pick-either Bytes (on (c .keyboard)) h (rest-bytes l h)
+
+-- ---- widths by place
+
+-- the devices' registers fit, place by place; past the last there is none
+pub fit-narrow : {c : Devices} → DevicesFit c → (k : ℕ) → getD (deviceValues c) k 0 < 2 ^ getD deviceWidths k 0
+fit-narrow f zero = f .key
+fit-narrow f (suc zero) = f .keyboard
+fit-narrow f (suc (suc zero)) = f .printer
+fit-narrow f (suc (suc (suc zero))) = f .print
+fit-narrow f (suc (suc (suc (suc zero)))) = f .mark
+fit-narrow f (suc (suc (suc (suc (suc k))))) = lit< tt

@@ -1,1 +1,3 @@
 pub mod Starts
+mod Ends
+pub mod TwoCalls

@@ -13,6 +13,7 @@ use Rattle.devices.specs.Devices.{deviceWidths, deviceValues}
 use Rattle.devices.specs.Session.{Session, placeLeft, opened, Exchange, exchanged, untouched}
 use Rattle.machine_state.specs.declared.Machine.{Machine}
 use Rattle.emulator.specs.declared.Answer.{Answer}
+use Rattle.emulator.specs.declared.DeviceAnswer.{DeviceAnswer}
 use Rattle.emulator.specs.declared.Answer.the-variants.{Ran, Refused}
 use Rattle.machine_state.specs.State.{State, start, registers}
 use Rattle.machine_state.specs.Registers.{widths, values}
@@ -62,6 +63,15 @@ pub record DeviceReport : Type 0 where
   pub report : Report
   pub devices : Devices
   pub exchange : Exchange
+
+-- the answer's numbers and values, with the memory and the output that are left
+abbrev pub deviceReport : Machine → DeviceAnswer → List ℕ → List ℕ → DeviceReport
+deviceReport m r memory output =
+    record {
+      report = report m (r .answer) memory;
+      devices = r .devices;
+      exchange = record { read = r .read; printed = r .printed; output = output };
+    }
 
 -- what a run comes to
 abbrev pub finishedDevices : List ℕ → List ℕ → Ended (Session Console) → DeviceReport

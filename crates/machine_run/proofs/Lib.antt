@@ -6,3 +6,5 @@ pub mod Marked
 pub mod Runs
 pub mod Rewritten
 pub mod Steps
+pub mod Advances
+pub mod Ready

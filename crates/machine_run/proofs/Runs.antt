@@ -14,7 +14,7 @@ use Rattle.machine_run.proofs.Keeps.{step-good}
 pub run-good : (budget : ℕ) {s : State} → Good s → Good (run budget s .left)
 run-good budget {s} g = run-keeps running step Good (λ x h. step-good h) budget s g
 
--- a number times RUN: the number, or 0 where RUN is 0
+-- a number times a bit: the number, or 0 where the bit is 0
 pub bound-is : (n b : ℕ) → b < 2 → n * b ≡ pick (on b) n 0
 bound-is n zero h = omega arith
 bound-is n (suc zero) h = omega arith

@@ -1,8 +1,11 @@
 -- `machine_run::step::step` fetches, increases PC and goes by the op.
 use mathlib.Core.Path.{_∙_}
+use Prim.Native.Nat.{ℕ}
+use native.Mathlib.Omega.{arith}
 use denote.Ref.{now}
 use borrow.Author.Needs.{needs}
 use Rattle.machine_state.specs.Processor.{at}
+use Rattle.machine_run.proofs.Advances.{advance-six, advance-rest}
 use Rattle.machine_run.proofs.Steps.{op-of, bit-3-of, op-left, counted-good, op-6, op-7, op-7-first, ops-0-to-5}
 use Rattle.machine_run.proofs.step.step.Statement.{statement}
 use Rattle.machine_run.proofs.step.step.Tie as tie
@@ -13,11 +16,11 @@ load-requires c κs = search needs
 increment-requires : tie.Need-increment-requires
 increment-requires c κs = search needs
 
-input-output-requires : tie.Need-input-output-requires
-input-output-requires c κs = search needs
+input-output-or-requires : tie.Need-input-output-or-requires
+input-output-or-requires c κs = search needs
 
-input-output-requires-2 : tie.Need-input-output-requires-2
-input-output-requires-2 c κs = search needs
+input-output-or-requires-2 : tie.Need-input-output-or-requires-2
+input-output-or-requires-2 c κs = search needs
 
 first-group-requires : tie.Need-first-group-requires
 first-group-requires c κs =
@@ -48,8 +51,10 @@ returns c =
     let test = c .before .before .before .before in
     let fetch = test .before .before in
     let begin = fetch .before .before .before .args in
-    c .before .before .input-output .ensures
-    ∙ op-6 (at (begin .p) (now (begin .memory))) _ _ (fetch .load .ensures) (test .before .increment .ensures) (op-of _ 12 (test .match .keys1))
+    let s = at (begin .p) (now (begin .memory)) in
+    c .before .before .input-output-or .ensures
+    ∙ advance-six (begin .devices) s _ _ (fetch .load .ensures)
+    (op-6 s _ _ (fetch .load .ensures) (test .before .increment .ensures) (op-of _ 12 (test .match .keys1)))
 
 same-length-2 : tie.Need-same-length-2
 same-length-2 c = search needs
@@ -59,8 +64,10 @@ returns-2 c =
     let test = c .before .before .before .before in
     let fetch = test .before .before in
     let begin = fetch .before .before .before .args in
-    c .before .before .input-output2 .ensures
-    ∙ op-6 (at (begin .p) (now (begin .memory))) _ _ (fetch .load .ensures) (test .before .increment .ensures) (op-of _ 13 (test .match .keys2))
+    let s = at (begin .p) (now (begin .memory)) in
+    c .before .before .input-output-or2 .ensures
+    ∙ advance-six (begin .devices) s _ _ (fetch .load .ensures)
+    (op-6 s _ _ (fetch .load .ensures) (test .before .increment .ensures) (op-of _ 13 (test .match .keys2)))
 
 same-length-3 : tie.Need-same-length-3
 same-length-3 c = search needs
@@ -70,9 +77,11 @@ returns-3 c =
     let test = c .before .before .before .before in
     let fetch = test .before .before in
     let begin = fetch .before .before .before .args in
+    let s = at (begin .p) (now (begin .memory)) in
+    let op = op-of _ 14 (test .match .keys3) in
     c .before .before .first-group .ensures
-    ∙ op-7-first (at (begin .p) (now (begin .memory))) _ _ (fetch .load .ensures) (test .before .increment .ensures) (op-of _ 14 (test .match .keys3))
-    (bit-3-of _ 14 (test .match .keys3))
+    ∙ op-7-first s _ _ (fetch .load .ensures) (test .before .increment .ensures) op (bit-3-of _ 14 (test .match .keys3))
+    ∙ advance-rest (begin .devices) s _ (fetch .load .ensures) (λ six. omega (arith, six, op))
 
 same-length-4 : tie.Need-same-length-4
 same-length-4 c = search needs
@@ -82,8 +91,11 @@ returns-4 c =
     let test = c .before .before .before .before in
     let fetch = test .before .before in
     let begin = fetch .before .before .before .args in
+    let s = at (begin .p) (now (begin .memory)) in
+    let op = op-of _ 15 (test .match .keys4) in
     c .before .before .other-groups .ensures
-    ∙ op-7 (at (begin .p) (now (begin .memory))) _ _ (fetch .load .ensures) (test .before .increment .ensures) (op-of _ 15 (test .match .keys4))
+    ∙ op-7 s _ _ (fetch .load .ensures) (test .before .increment .ensures) op
+    ∙ advance-rest (begin .devices) s _ (fetch .load .ensures) (λ six. omega (arith, six, op))
 
 same-length-5 : tie.Need-same-length-5
 same-length-5 c = search needs
@@ -93,8 +105,11 @@ returns-5 c =
     let test = c .before .before .before .before in
     let fetch = test .before .before in
     let begin = fetch .before .before .before .args in
+    let s = at (begin .p) (now (begin .memory)) in
+    let low = op-left _ (test .match .rest) in
     c .before .before .refer .ensures
-    ∙ ops-0-to-5 (at (begin .p) (now (begin .memory))) _ _ (fetch .load .ensures) (test .before .increment .ensures) (op-left _ (test .match .rest))
+    ∙ ops-0-to-5 s _ _ (fetch .load .ensures) (test .before .increment .ensures) low
+    ∙ advance-rest (begin .devices) s _ (fetch .load .ensures) (λ six. omega (arith, six, low))
 
 pub step-spec : {M : Type 1} → statement M
 step-spec =
@@ -102,8 +117,8 @@ step-spec =
     (tie.spec
     load-requires
     increment-requires
-    input-output-requires
-    input-output-requires-2
+    input-output-or-requires
+    input-output-or-requires-2
     first-group-requires
     other-groups-requires
     refer-requires

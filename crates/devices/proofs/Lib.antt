@@ -1,3 +1,4 @@
 pub mod Starts
 pub mod Held
 pub mod Split
+pub mod Sessions

@@ -1,43 +1,54 @@
 -- The claim wherever the evaluator does not refuse: its checks find nothing only at a start that meets document 01's conditions. So it is said of the two
 -- programs' own answers.
 -- Assumes nothing.
-use mathlib.Core.Path.{_≡_, refl, sym, ap, _∙_, subst}
+use mathlib.Core.Path.{_≡_, refl, sym, ap, ap₂, _∙_, subst}
 use mathlib.Core.List.{List}
 use Prim.Native.Nat.{ℕ}
 use lib.ListN.{length}
-use Rattle.state.specs.Refusals.{numberOf, placeOf}
 use Rattle.state.specs.Checks.{checkState, checkRowList}
+use Rattle.state.specs.declared.Refusal.{Refusal}
 use Rattle.state.specs.declared.Verdict.{Verdict}
 use Rattle.state.specs.declared.Verdict.the-variants.{Fit, Unfit}
 use Rattle.state.proofs.Accepted.{row-list-long, both-fit, state-sound}
 use Rattle.state.proofs.Numbers.{numbered}
+use Rattle.devices.specs.declared.Devices.{Devices}
 use Rattle.machine_state.specs.declared.Machine.{Machine}
 use Rattle.emulator.specs.Emulate as emulator
-use Rattle.emulator.specs.Emulate.{emulate}
 use Rattle.text_limits.specs.Limits.{mostRegisters}
 use Rattle.text_description.specs.Description as text
-use Rattle.evaluator.specs.Evaluate.{Report, refused, finished, widthsOf, check, evaluateOf, evaluate}
-use Rattle.rows_cycles.specs.Run.{running}
-use Rattle.shipped_rows.specs.Variant.{Variant, valuesOf}
+use Rattle.evaluator.specs.declared.Outcome.the-variants.{Refused}
+use Rattle.evaluator.specs.Evaluate.{Report, DeviceReport, outcomeOf, widthsOf, check, evaluateOf, evaluate, without, runOf, evaluateDevicesOf, evaluateDevices}
+use Rattle.shipped_rows.specs.Variant.{Variant, plain, devices, valuesOf}
 use Rattle.shipped_rows.specs.Text.{shippedText}
 use Rattle.shipped_rows.specs.Shipped.{shipped}
-use Rattle.shipped.specs.Claim.{machinePart, Start, Same, cyclesOf, Claim, Together}
+use Rattle.shipped.specs.Claim.{machinePart, Start, emulation, evaluation, Same, byCycles, Claim, Together}
 use Rattle.shipped_rows.proofs.Accepted.{shipped-read}
 use Rattle.shipped.proofs.Agree.{runs-agree}
 
-abbrev number : Report → ℕ
-number r = r .number
-
 -- a check by which nothing was refused found nothing
-passes : (v : Verdict) (ran : Report) (registers memory list : List ℕ)
-    → number (elim v [ Fit ↦ ran | Unfit why ↦ refused (numberOf why) (placeOf why) registers memory list ]) ≡ 0 → v ≡ Fit
-passes Fit ran registers memory list e = refl
-passes (Unfit why) ran registers memory list e = absurd (numbered why e)
+passes : {A : Type 0} (number : A → ℕ) (v : Verdict) (ran : A) (refused : Refusal → A) → ((why : Refusal) → number (refused why) ≡ 0 → ⊥)
+    → number (elim v [ Fit ↦ ran | Unfit why ↦ refused why ]) ≡ 0 → v ≡ Fit
+passes number Fit ran refused some e = refl
+passes number (Unfit why) ran refused some e = absurd (some why e)
 
-module _ (v : Variant) (m : Machine) (registers memory : List ℕ) (budget : ℕ) (list : List ℕ) where
+unrefused : (v : Variant) (registers memory : List ℕ) (budget : ℕ) (list input output : List ℕ)
+    → evaluation v registers memory budget list input output .report .number ≡ 0 → check (shipped v) registers memory budget list ≡ Fit
+unfolding evaluate evaluateOf evaluateDevices evaluateDevicesOf
+unrefused plain registers memory budget list input output e =
+    passes (λ (r : Report). r .number) (check (shipped plain) registers memory budget list)
+    (byCycles plain (record { registers = registers; memory = memory }) budget list input output .report)
+    (λ why. outcomeOf (Refused why) registers memory list) numbered
+    (ap (λ (a : text.Acceptance). evaluateOf a registers memory budget list .number) (sym (shipped-read plain)) ∙ e)
+unrefused devices registers memory budget list input output e =
+    passes (λ (r : DeviceReport). r .report .number) (check (shipped devices) registers memory budget list)
+    (runOf (shipped devices) (record { registers = registers; memory = memory }) budget list input output)
+    (λ why. without (outcomeOf (Refused why) registers memory list) output) numbered
+    (ap (λ (a : text.Acceptance). evaluateDevicesOf a registers memory budget list input output .report .number) (sym (shipped-read devices)) ∙ e)
+
+module _ (v : Variant) (m : Machine) (c : Devices) (registers memory : List ℕ) (budget : ℕ) (list input output : List ℕ) where
   -- what passes the evaluator's checks is a start
-  start-of : length registers ≡ mostRegisters → machinePart v registers ≡ valuesOf v m → check (shipped v) registers memory budget list ≡ Fit
-      → Start v m registers memory budget list
+  start-of : length registers ≡ mostRegisters → machinePart v registers ≡ valuesOf v m c → check (shipped v) registers memory budget list ≡ Fit
+      → Start v m c registers memory budget list
   start-of places machine e =
       let outer = both-fit (checkState (widthsOf (shipped v)) registers memory budget) (checkRowList (length list)) e in
       let sound = state-sound (widthsOf (shipped v)) registers memory budget (outer .0) in
@@ -50,33 +61,31 @@ module _ (v : Variant) (m : Machine) (registers memory : List ℕ) (budget : ℕ
         roomy = row-list-long (length list) (outer .1);
       }
 
-  unrefused : evaluate (shippedText v) registers memory budget list .number ≡ 0 → check (shipped v) registers memory budget list ≡ Fit
-  unfolding evaluate evaluateOf
-  unrefused e =
-      passes (check (shipped v) registers memory budget list) (finished (running (shipped v)) (cyclesOf v registers memory budget) list) registers memory list
-      (ap (λ (a : text.Acceptance). number (evaluateOf a registers memory budget list)) (sym (shipped-read v)) ∙ e)
-
   -- what the emulator refuses, the evaluator refuses too: so this is wherever neither refuses
-  pub unrefused-agree : length registers ≡ mostRegisters → machinePart v registers ≡ valuesOf v m
-      → evaluate (shippedText v) registers memory budget list .number ≡ 0 → Claim v m registers memory budget list
-  unrefused-agree places machine e = runs-agree v m registers memory budget list (start-of places machine (unrefused e))
+  pub unrefused-agree : length registers ≡ mostRegisters → machinePart v registers ≡ valuesOf v m c
+      → evaluation v registers memory budget list input output .report .number ≡ 0 → Claim v m c registers memory budget list input output
+  unrefused-agree places machine e =
+      runs-agree v m c registers memory budget list input output (start-of places machine (unrefused v registers memory budget list input output e))
 
   -- the same of two answers that are what the definitions give, as the entries' contracts say of theirs
-  answers-agree : length registers ≡ mostRegisters → machinePart v registers ≡ valuesOf v m
-      → (a : emulator.Report) (b : Report) → a ≡ emulate m memory budget → b ≡ evaluate (shippedText v) registers memory budget list
-      → b .number ≡ 0 → Same v a b
+  answers-agree : length registers ≡ mostRegisters → machinePart v registers ≡ valuesOf v m c
+      → (a : emulator.DeviceReport) (b : DeviceReport) → a ≡ emulation v m c memory budget input output → b ≡ evaluation v registers memory budget list input output
+      → b .report .number ≡ 0 → Same v a b
   answers-agree places machine a b p q e =
-      subst (λ (x : emulator.Report). Same v x b) (sym p)
-      (subst (λ (y : Report). Same v (emulate m memory budget) y) (sym q) (unrefused-agree places machine (ap number (sym q) ∙ e) .same))
+      subst (λ (x : emulator.DeviceReport). Same v x b) (sym p)
+      (subst (λ (y : DeviceReport). Same v (emulation v m c memory budget input output) y) (sym q)
+      (unrefused-agree places machine (ap (λ (r : DeviceReport). r .report .number) (sym q) ∙ e) .same))
 
--- and of answers that two memories gave, wherever these hold the same words
-pub together : (v : Variant) (m : Machine) (registers first second : List ℕ) (budget : ℕ) (list : List ℕ) (a : emulator.Report) (b : Report)
-    → length registers ≡ mostRegisters → a ≡ emulate m first budget → b ≡ evaluate (shippedText v) registers second budget list
-    → Together v m registers first second budget list a b
-together v m registers first second budget list a b places p q =
+-- and of answers that two memories and two outputs gave, wherever these hold the same
+pub together : (v : Variant) (m : Machine) (c : Devices) (registers first second : List ℕ) (budget : ℕ) (list input left right : List ℕ)
+    (a : emulator.DeviceReport) (b : DeviceReport) → length registers ≡ mostRegisters
+    → a ≡ emulation v m c first budget input left → b ≡ evaluation v registers second budget list input right
+    → Together v m c registers first second budget list input left right a b
+together v m c registers first second budget list input left right a b places p q =
     record {
       emulated = p;
       evaluated = q;
-      agree = λ same machine none.
-          answers-agree v m registers first budget list places machine a b p (q ∙ ap (λ (l : List ℕ). evaluate (shippedText v) registers l budget list) same) none;
+      agree = λ memory output machine none.
+          answers-agree v m c registers first budget list input left places machine a b p
+          (q ∙ ap₂ (λ (l o : List ℕ). evaluation v registers l budget list input o) memory output) none;
     }

@@ -18,6 +18,7 @@ use Rattle.emulator.specs.Emulate as emulator
 use Rattle.emulator.specs.Emulate.{emulate, emulateDevices}
 use Rattle.text_limits.specs.Limits.{mostRegisters}
 use Rattle.text_description.specs.Description.{accepted, readText}
+use Rattle.runs.specs.Run.{Ended}
 use Rattle.rows_value.specs.Value as rows
 use Rattle.rows_cycles.specs.Cycle.{Cycle}
 use Rattle.rows_cycles.specs.Run as cycles
@@ -71,6 +72,9 @@ bySteps plain m c memory budget input output =
     record { report = emulator.finished (steps.run budget (start m memory)); devices = c; exchange = untouched output }
 bySteps devices m c memory budget input output =
     emulator.finishedDevices input output (consoles.run (length output) budget (opened (console (start m memory) c) input))
+
+abbrev pub cyclesOf : Variant → List ℕ → List ℕ → ℕ → Ended Cycle
+cyclesOf v registers memory budget = cycles.run (shipped v) budget (record { registers = registers; memory = memory })
 
 -- the last cycle that a run leaves
 abbrev pub lastCycle : Variant → rows.State → ℕ → List ℕ → List ℕ → Cycle

@@ -2,7 +2,11 @@
 use machine_state::Machine;
 use rows_store::Registers;
 ghost use mathlib.Core.Path.{_≡_};
-ghost use Rattle.evaluator.specs.Evaluate.{report, evaluate};
+ghost use mathlib.Core.List.{List};
+ghost use Prim.Native.Nat.{ℕ};
+ghost use Rattle.devices.specs.declared.Devices.{Devices};
+ghost use Rattle.devices.specs.Session.{untouched};
+ghost use Rattle.evaluator.specs.Evaluate.{report, evaluate, without};
 ghost use Rattle.emulator.specs.Emulate as emulation;
 ghost use Rattle.shipped_rows.specs.Variant.{plain};
 ghost use Rattle.shipped_rows.specs.Text.{shippedText};
@@ -36,8 +40,8 @@ pub fn run_both(
     budget: u64,
     rows: &mut [u8],
 ) -> Both
-    ensures { λ r. ⌜ Together plain m (registers .values) (now (first .entry)) (now (second .entry)) budget (now (rows .entry))
-        (emulation.report m (r .emulated) (now (first .exit))) (report (r .evaluated) (now (second .exit)) (now (rows .exit))) ⌝ }
+    ensures { λ r. ⌜ ((c : Devices) (input left right : List ℕ) → Together plain m c (registers .values) (now (first .entry)) (now (second .entry)) budget (now (rows .entry)) input left right
+        (record { report = emulation.report m (r .emulated) (now (first .exit)); devices = c; exchange = untouched left }) (without (report (r .evaluated) (now (second .exit)) (now (rows .exit))) right)) ⌝ }
 {
     let emulated = emulator::emulate(first, m, budget);
     let evaluated = evaluate_shipped(second, registers, budget, rows);

@@ -19,7 +19,7 @@ use Rattle.text_declaration.specs.Rows.{Description, piecesOf}
 use Rattle.text_declaration.specs.Lines.{addRegister, regLine, addLabel, atLine}
 use Rattle.text_targets.specs.Targets.{passes, firstMissing}
 use Rattle.text_rows.specs.Lines.{addRow, addDo, doLine, addGo, goLine}
-use Rattle.shipped_rows.specs.Variant.{Variant, plain}
+use Rattle.shipped_rows.specs.Variant.{Variant, plain, devices}
 use Rattle.shipped_rows.specs.Text.{shippedText}
 use Rattle.shipped_rows.specs.Shipped.{described, shipped, mostShippedRows}
 use Rattle.shipped_rows.proofs.Tree.{tree}
@@ -32,6 +32,7 @@ unfolding run runEnd same numberAt decimalAt markedAt shortestFrom ofDecimal con
     expression ofName ofAddress memoryAt destination addRegister regLine piecesOf addRow addDo doLine passes addGo goLine addLabel atLine byWord readLine firstMissing
     finished readLines readBelow readAll readText shippedText
 shipped-accepted plain = refl
+shipped-accepted devices = refl
 
 pub shipped-is : (v : Variant) → shipped v ≡ tree v
 unfolding shipped
@@ -42,6 +43,7 @@ shipped-read v = shipped-accepted v ∙ ap accepted (sym (shipped-is v))
 
 tree-short : (v : Variant) → length (tree v .rows) ≤ mostShippedRows
 tree-short plain = lit≤ tt
+tree-short devices = lit≤ tt
 
 pub shipped-short : (v : Variant) → length (shipped v .rows) ≤ mostShippedRows
 shipped-short v = subst (λ (d : Description). length (d .rows) ≤ mostShippedRows) (sym (shipped-is v)) (tree-short v)

@@ -5,7 +5,7 @@ use mathlib.Core.Bool.{Bool, true, false, not, _&&_, _||_, Bool·not-not}
 use Prim.Native.Nat.{ℕ, zero, suc, _/_, _^_, _<_}
 use native.Mathlib.Nat.{not-suc-le-zero, le-of-suc-le-suc}
 use native.Mathlib.Omega.{arith}
-use lib.Bits.{bitAnd}
+use lib.Bits.{bitAnd, bitOr}
 use lib.Dec.{eqb}
 use Rattle.word.specs.Choice.{on, pick, bit}
 use Rattle.word.specs.Word.{wordBits, bits, complement}
@@ -30,7 +30,7 @@ of-bit (suc (suc x)) h = absurd (not-suc-le-zero (le-of-suc-le-suc (le-of-suc-le
 pub of-zero : (x : ℕ) → Flag (bit (eqb x 0)) (not (on x))
 of-zero x = record { is = ap bit (sym (Bool·not-not (eqb x 0))) }
 
--- "Not" of one bit, and "And" of two
+-- "Not" of one bit, "And" and "Or" of two
 pub negated : {x : ℕ} {t : Bool} → Flag x t → Flag (complement 1 x) (not t)
 negated {x} {t} p = record { is = ap (complement 1) (p .is) ∙ go t }
   where
@@ -38,10 +38,19 @@ negated {x} {t} p = record { is = ap (complement 1) (p .is) ∙ go t }
     go true = refl
     go false = refl
 
-pub both : {x y : ℕ} {t u : Bool} → Flag x t → Flag y u → on (bitAnd x y) ≡ (t && u)
-both {x} {y} {t} {u} p q = ap₂ (λ (a b : ℕ). on (bitAnd a b)) (p .is) (q .is) ∙ go t u
+pub flag-and : {x y : ℕ} {t u : Bool} → Flag x t → Flag y u → Flag (bitAnd x y) (t && u)
+flag-and {x} {y} {t} {u} p q = record { is = ap₂ bitAnd (p .is) (q .is) ∙ go t u }
   where
-    go : (a b : Bool) → on (bitAnd (bit a) (bit b)) ≡ (a && b)
+    go : (a b : Bool) → bitAnd (bit a) (bit b) ≡ bit (a && b)
+    go true true = refl
+    go true false = refl
+    go false true = refl
+    go false false = refl
+
+pub flag-or : {x y : ℕ} {t u : Bool} → Flag x t → Flag y u → Flag (bitOr x y) (t || u)
+flag-or {x} {y} {t} {u} p q = record { is = ap₂ bitOr (p .is) (q .is) ∙ go t u }
+  where
+    go : (a b : Bool) → bitOr (bit a) (bit b) ≡ bit (a || b)
     go true true = refl
     go true false = refl
     go false true = refl

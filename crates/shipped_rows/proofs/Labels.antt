@@ -7,8 +7,9 @@ use native.Mathlib.Omega.{arith}
 use lib.ListN.{length, drop, length-append}
 use lib.Seq.{drop-append-seam}
 use Rattle.text_declaration.specs.Rows.{Row}
-use Rattle.shipped_rows.specs.Variant.{Variant}
+use Rattle.shipped_rows.specs.Variant.{Variant, plain, devices}
 use Rattle.shipped_rows.proofs.Tree.{
+  rows·devices,
   rows·interrupt,
   rows·group3,
   rows·decided,
@@ -57,6 +58,11 @@ lands {label} b =
     ∙ ap (λ (n : ℕ). drop n (b .above ++ label)) (ap (λ (n : ℕ). n - length label) (length-append (b .above) label) ∙ back (length (b .above)) (length label))
     ∙ drop-append-seam (b .above) label
 
+-- what stands below the rest stands below the rows that only some variants have, too
+pub under-devices : (v : Variant) {label rest : List Row} → Below label rest → Below label (rows·devices v rest)
+under-devices plain b = b
+under-devices devices b = under (under (under (under (under (under (under b))))))
+
 -- ---- the labels: of two in a name, the first stands below the second
 
 module _ (v : Variant) where
@@ -91,7 +97,7 @@ module _ (v : Variant) where
   interrupt-opr = through interrupt-twice twice-opr
 
   opr-iot : Below (rows·opr v) (rows·iot v)
-  opr-iot = under (under (under (under here)))
+  opr-iot = under (under (under (under-devices v (under here))))
 
   pub interrupt-iot : Below (rows·interrupt v) (rows·iot v)
   interrupt-iot = through interrupt-opr opr-iot

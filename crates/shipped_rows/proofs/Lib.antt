@@ -6,6 +6,10 @@ mod Labels
 mod Ends
 mod Working
 mod Bits
+mod DeviceWords
+pub mod DeviceKeeps
+pub mod Machines
+mod Devices
 mod Interrupts
 mod References
 mod Addresses

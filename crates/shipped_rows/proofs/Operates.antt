@@ -10,6 +10,7 @@ use Rattle.word.specs.Choice.{on, pick}
 use Rattle.word.specs.Word.{wordBits, complement, rotatedLeft, rotatedRight}
 use Rattle.word.proofs.Choice.{pick-either}
 use Rattle.word.proofs.Rotation.{rotatedLeft-lt, rotatedRight-lt}
+use Rattle.devices.specs.declared.Devices.{Devices}
 use Rattle.machine_state.specs.State.{State, Good, lacBits, withLac, link, ac, withLink, withAc}
 use Rattle.machine_state.specs.Instruction.{flag}
 use Rattle.machine_state.specs.Interrupt.{testedIf}
@@ -27,7 +28,7 @@ use Rattle.shipped_rows.proofs.Ends.{Ends, moved, jumps, decides, Teste
 use Rattle.shipped_rows.proofs.Working.{i-bit}
 use Rattle.shipped_rows.proofs.Skips.{ends-second}
 
-module _ (v : Variant) {test : State → State} (tested : Tested v test) {o : State} {w : Work} (g : Good o) (f : Fit w) where
+module _ (v : Variant) {c : Devices} {test : State → State} (tested : Tested v c test) {o : State} {w : Work} (g : Good o) (f : Fit w) where
   abbrev i : ℕ
   i = w .i
 
@@ -56,14 +57,14 @@ module _ (v : Variant) {test : State → State} (tested : Tested v test) {o : St
 
   -- a state with another LAC
   abbrev lac-is : ℕ → rows.State
-  lac-is x = inPlaces v (withLac x o) w
+  lac-is x = inPlaces v c (withLac x o) w
 
-  ends-lac : (x : ℕ) → x < 2 ^ lacBits → Ends v (rows·interrupt v) (lac-is x) (test (withLac x o))
+  ends-lac : (x : ℕ) → x < 2 ^ lacBits → Ends v c (rows·interrupt v) (lac-is x) (test (withLac x o))
   ends-lac x h = tested .ends (withLac x o) w (lac-good h g) f
 
-  ends-group3 : Ends v (rows·group3 v) (inPlaces v o w) (test (group3 i o))
+  ends-group3 : Ends v c (rows·group3 v) (inPlaces v c o w) (test (group3 i o))
   unfolding group3
-  ends-group3 = moved lac-is (o .lac) (withAc (o .lac) 0) (on (flag 4 i)) (i-bit v o w 4) refl (ends-lac (cleared i (o .lac)) (cleared-lt i (g .lac)))
+  ends-group3 = moved lac-is (o .lac) (withAc (o .lac) 0) (on (flag 4 i)) (i-bit v c o w 4) refl (ends-lac (cleared i (o .lac)) (cleared-lt i (g .lac)))
 
   leftBy-lt : (n : ℕ) {x : ℕ} → x < 2 ^ lacBits → leftBy n x < 2 ^ lacBits
   leftBy-lt n h = pick-either (λ (z : ℕ). z < 2 ^ lacBits) (on (flag 9 i)) (rotatedLeft-lt lacBits (lit< tt) n h) h
@@ -72,22 +73,22 @@ module _ (v : Variant) {test : State → State} (tested : Tested v test) {o : St
   rotatedBy-lt n h = pick-either (λ (z : ℕ). z < 2 ^ lacBits) (on (flag 8 i)) (rotatedRight-lt lacBits (lit< tt) n (leftBy-lt n h)) (leftBy-lt n h)
 
   -- two rows rotate by n places, and the third goes to the interrupt test
-  ends-rotates : (n : ℕ) {rs : List Row} → Below (rows·interrupt v) rs → (x : ℕ) → x < 2 ^ lacBits → Ends v (rotates v n rs) (lac-is x) (test (withLac (rotatedBy n x) o))
+  ends-rotates : (n : ℕ) {rs : List Row} → Below (rows·interrupt v) rs → (x : ℕ) → x < 2 ^ lacBits → Ends v c (rotates v n rs) (lac-is x) (test (withLac (rotatedBy n x) o))
   ends-rotates n below x h =
-      moved lac-is x (rotatedLeft lacBits n x) (on (flag 9 i)) (i-bit v (withLac x o) w 9) (ap lac-is (mod-eq-of-lt (rotatedLeft-lt lacBits (lit< tt) n h)))
-      (moved lac-is (leftBy n x) (rotatedRight lacBits n (leftBy n x)) (on (flag 8 i)) (i-bit v (withLac (leftBy n x) o) w 8)
+      moved lac-is x (rotatedLeft lacBits n x) (on (flag 9 i)) (i-bit v c (withLac x o) w 9) (ap lac-is (mod-eq-of-lt (rotatedLeft-lt lacBits (lit< tt) n h)))
+      (moved lac-is (leftBy n x) (rotatedRight lacBits n (leftBy n x)) (on (flag 8 i)) (i-bit v c (withLac (leftBy n x) o) w 8)
       (ap lac-is (mod-eq-of-lt (rotatedRight-lt lacBits (lit< tt) n (leftBy-lt n h))))
       (jumps below refl (ends-lac (rotatedBy n x) (rotatedBy-lt n h))))
 
-  ends-group1 : Ends v (rows·group1 v) (inPlaces v o w) (test (group1 i o))
+  ends-group1 : Ends v c (rows·group1 v) (inPlaces v c o w) (test (group1 i o))
   unfolding group1 changed machine.rotated
   ends-group1 =
-      moved lac-is (o .lac) (withAc (o .lac) 0) (on (flag 4 i)) (i-bit v o w 4) refl
-      (moved lac-is lac₁ (withLink lac₁ 0) (on (flag 5 i)) (i-bit v (withLac lac₁ o) w 5) refl
-      (moved lac-is lac₂ (withAc lac₂ (complement wordBits (ac lac₂))) (on (flag 6 i)) (i-bit v (withLac lac₂ o) w 6) refl
-      (moved lac-is lac₃ (withLink lac₃ (complement 1 (link lac₃))) (on (flag 7 i)) (i-bit v (withLac lac₃ o) w 7) refl
-      (moved lac-is lac₄ ((lac₄ + 1) % 2 ^ lacBits) (on (flag 11 i)) (i-bit v (withLac lac₄ o) w 11) refl
-      (decides (under (under (under here))) (λ (t : Bool). test (withLac (rotatedBy (pick t 2 1) lac₅) o)) (on (flag 10 i)) (i-bit v (withLac lac₅ o) w 10)
+      moved lac-is (o .lac) (withAc (o .lac) 0) (on (flag 4 i)) (i-bit v c o w 4) refl
+      (moved lac-is lac₁ (withLink lac₁ 0) (on (flag 5 i)) (i-bit v c (withLac lac₁ o) w 5) refl
+      (moved lac-is lac₂ (withAc lac₂ (complement wordBits (ac lac₂))) (on (flag 6 i)) (i-bit v c (withLac lac₂ o) w 6) refl
+      (moved lac-is lac₃ (withLink lac₃ (complement 1 (link lac₃))) (on (flag 7 i)) (i-bit v c (withLac lac₃ o) w 7) refl
+      (moved lac-is lac₄ ((lac₄ + 1) % 2 ^ lacBits) (on (flag 11 i)) (i-bit v c (withLac lac₄ o) w 11) refl
+      (decides (under (under (under here))) (λ (t : Bool). test (withLac (rotatedBy (pick t 2 1) lac₅) o)) (on (flag 10 i)) (i-bit v c (withLac lac₅ o) w 10)
       (ends-rotates 2 (interrupt-group2 v) lac₅ (changed-lt i (g .lac)))
       (ends-rotates 1 (interrupt-twice v) lac₅ (changed-lt i (g .lac))))))))
 
@@ -96,9 +97,9 @@ module _ (v : Variant) {test : State → State} (tested : Tested v test) {o : St
   ended three eleven =
       testedIf test (not (three && not eleven && on (flag 10 i))) (pick three (pick eleven (group3 i o) (group2 i o)) (group1 i o))
 
-  pub ends-opr : Ends v (rows·opr v) (inPlaces v o w) (testedIf test (not (clearsRun i)) (operate i o))
+  pub ends-opr : Ends v c (rows·opr v) (inPlaces v c o w) (testedIf test (not (clearsRun i)) (operate i o))
   unfolding operate clearsRun
   ends-opr =
-      decides (under (under (under (under (under (under (under (under (under (group2-twice v)))))))))) (λ (t : Bool). ended t (on (flag 11 i))) (on (flag 3 i)) (i-bit v o w 3)
-      (decides (under (under (under (under (under (under (group3-inverted v))))))) (ended true) (on (flag 11 i)) (i-bit v o w 11) ends-group3 (ends-second v tested g f))
+      decides (under (under (under (under (under (under (under (under (under (group2-twice v)))))))))) (λ (t : Bool). ended t (on (flag 11 i))) (on (flag 3 i)) (i-bit v c o w 3)
+      (decides (under (under (under (under (under (under (group3-inverted v))))))) (ended true) (on (flag 11 i)) (i-bit v c o w 11) ends-group3 (ends-second v tested g f))
       ends-group1

@@ -11,6 +11,7 @@ use Rattle.word.specs.Choice.{on, pick, bit}
 use Rattle.word.specs.Word.{wordBits, bits, next}
 use Rattle.word.proofs.Choice.{pick-either, on-bit, bit-lt}
 use Rattle.word.proofs.Next.{next-lt}
+use Rattle.devices.specs.declared.Devices.{Devices}
 use Rattle.machine_state.specs.State.{State, Good, withLac, withPc, withRun, link, ac, withAc}
 use Rattle.machine_state.specs.Instruction.{flag}
 use Rattle.machine_state.specs.Interrupt.{testedIf}
@@ -28,9 +29,9 @@ use Rattle.shipped_rows.proofs.Labels.{here, under, at-the-end, interru
 use Rattle.shipped_rows.proofs.Places.{Work, Fit, inPlaces, withSkip, skip-fit, skip-stored}
 use Rattle.shipped_rows.proofs.Ends.{Ends, past, seen, acts, moved, jumps, decides, Tested}
 use Rattle.shipped_rows.proofs.Working.{i-bits, i-bit, skip-is}
-use Rattle.shipped_rows.proofs.Bits.{Flag, of-test, of-bit, of-zero, negated, both, set-where}
+use Rattle.shipped_rows.proofs.Bits.{Flag, of-test, of-bit, of-zero, negated, flag-and, on-flag, set-where}
 
-module _ (v : Variant) {test : State → State} (tested : Tested v test) {o : State} {w : Work} (g : Good o) (f : Fit w) where
+module _ (v : Variant) {c : Devices} {test : State → State} (tested : Tested v c test) {o : State} {w : Work} (g : Good o) (f : Fit w) where
   abbrev i : ℕ
   i = w .i
 
@@ -54,40 +55,40 @@ module _ (v : Variant) {test : State → State} (tested : Tested v test) {o : St
   skipping b = withSkip (bit b) w
 
   abbrev skip-so-far : Bool → rows.State
-  skip-so-far b = inPlaces v o (skipping b)
+  skip-so-far b = inPlaces v c o (skipping b)
 
   abbrev counted : Bool → ℕ → State
   counted b x = withLac x (withPc (pick b (next (o .pc)) (o .pc)) o)
 
   abbrev lac-so-far : Bool → ℕ → rows.State
-  lac-so-far b x = inPlaces v (counted b x) (skipping b)
+  lac-so-far b x = inPlaces v c (counted b x) (skipping b)
 
   abbrev run-so-far : Bool → ℕ → rows.State
-  run-so-far b x = inPlaces v (withRun x (decided b)) (skipping b)
+  run-so-far b x = inPlaces v c (withRun x (decided b)) (skipping b)
 
   -- and the interrupt test, unless it halts
   abbrev ended : Bool → State
   ended b = testedIf test (not (on (flag 10 i))) (decided b)
 
-  ends-decided : (b : Bool) → Ends v (rows·decided v) (skip-so-far b) (ended b)
+  ends-decided : (b : Bool) → Ends v c (rows·decided v) (skip-so-far b) (ended b)
   ends-decided b =
-      moved (λ (x : ℕ). inPlaces v (withPc x o) (skipping b)) (o .pc) (next (o .pc)) b (ap on (skip-is v o (skipping b)) ∙ on-bit b) refl
-      (moved (lac-so-far b) lac (withAc lac 0) (on (flag 4 i)) (i-bit v (counted b lac) (skipping b) 4) refl
+      moved (λ (x : ℕ). inPlaces v c (withPc x o) (skipping b)) (o .pc) (next (o .pc)) b (ap on (skip-is v c o (skipping b)) ∙ on-bit b) refl
+      (moved (lac-so-far b) lac (withAc lac 0) (on (flag 4 i)) (i-bit v c (counted b lac) (skipping b) 4) refl
       (moved (lac-so-far b) (cleared i lac) (withAc (cleared i lac) (bitOr (ac (cleared i lac)) (o .switches))) (on (flag 9 i))
-      (i-bit v (counted b (cleared i lac)) (skipping b) 9) refl
-      (moved (run-so-far b) (o .run) 0 (on (flag 10 i)) (i-bit v (withRun (o .run) (decided b)) (skipping b) 10) refl
-      (decides (at-the-end (rows·runs v)) (λ (t : Bool). testedIf test (not t) (decided b)) (on (flag 10 i)) (i-bit v (decided b) (skipping b) 10) (past (skip-fit (bit-lt b) f))
+      (i-bit v c (counted b (cleared i lac)) (skipping b) 9) refl
+      (moved (run-so-far b) (o .run) 0 (on (flag 10 i)) (i-bit v c (withRun (o .run) (decided b)) (skipping b) 10) refl
+      (decides (at-the-end (rows·runs v)) (λ (t : Bool). testedIf test (not t) (decided b)) (on (flag 10 i)) (i-bit v c (decided b) (skipping b) 10) (past (skip-fit (bit-lt b) f))
       (jumps (interrupt-group3 v) refl (tested .ends (decided b) (skipping b) (decided-good b) (skip-fit (bit-lt b) f)))))))
 
   -- a row that sets skip where its condition holds
-  selects : {c : Expr} {rs : List Row} {p : State} (b t : Bool) → on (value (skip-so-far b) c) ≡ t → Ends v rs (skip-so-far (b || t)) p
-      → Ends v (does c (toSkip v) one ∷ rs) (skip-so-far b) p
+  selects : {e : Expr} {rs : List Row} {p : State} (b t : Bool) → on (value (skip-so-far b) e) ≡ t → Ends v c rs (skip-so-far (b || t)) p
+      → Ends v c (does e (toSkip v) one ∷ rs) (skip-so-far b) p
   selects b t condition r =
-      moved (λ (x : ℕ). inPlaces v o (withSkip x w)) (bit b) 1 t condition (skip-stored v o (skipping b) 1 refl) (seen (ap (λ (x : ℕ). inPlaces v o (withSkip x w)) (set-where b t)) r)
+      moved (λ (x : ℕ). inPlaces v c o (withSkip x w)) (bit b) 1 t condition (skip-stored v c o (skipping b) 1 refl) (seen (ap (λ (x : ℕ). inPlaces v c o (withSkip x w)) (set-where b t)) r)
 
   -- a condition that bit k of i selects
   selected : (b : Bool) (k : ℕ) {x : ℕ} {t : Bool} → flag k i < 2 → Flag x t → on (bitAnd (value (skip-so-far b) (tree.iBit v k)) x) ≡ (on (flag k i) && t)
-  selected b k {x} h p = ap (λ (y : ℕ). on (bitAnd y x)) (i-bits v o (skipping b) k k) ∙ both (of-bit (flag k i) h) p
+  selected b k {x} h p = ap (λ (y : ℕ). on (bitAnd y x)) (i-bits v c o (skipping b) k k) ∙ on-flag (flag-and (of-bit (flag k i) h) p)
 
   -- bits 5 to 7, by the names that they have in 002
   abbrev sma : Bool
@@ -111,24 +112,24 @@ module _ (v : Variant) {test : State → State} (tested : Tested v test) {o : St
   abbrev szl : Bool
   szl = on (flag 7 i) && not (on (link lac))
 
-  ends-plain : Ends v (rows·skips v) (skip-so-far false) (ended (skipsPlain i lac))
+  ends-plain : Ends v c (rows·skips v) (skip-so-far false) (ended (skipsPlain i lac))
   ends-plain =
       selects false sma (selected false 5 (omega arith) (of-bit (sign lac) (omega arith)))
       (selects sma sza (selected sma 6 (omega arith) (of-zero (ac lac)))
       (selects (sma || sza) snl (selected (sma || sza) 7 (omega arith) (of-bit (link lac) (omega arith)))
       (jumps (decided-inverted v) refl (ends-decided (skipsPlain i lac)))))
 
-  ends-inverted : Ends v (rows·inverted v) (skip-so-far false) (ended (skipsReversed i lac))
+  ends-inverted : Ends v c (rows·inverted v) (skip-so-far false) (ended (skipsReversed i lac))
   ends-inverted =
-      selects false none (on-bit _ ∙ ap (λ (x : ℕ). eqb x 0) (i-bits v o (skipping false) 5 7) ∙ sym (Bool·not-not (eqb (bits wordBits 5 7 i) 0)))
+      selects false none (on-bit _ ∙ ap (λ (x : ℕ). eqb x 0) (i-bits v c o (skipping false) 5 7) ∙ sym (Bool·not-not (eqb (bits wordBits 5 7 i) 0)))
       (selects none spa (selected none 5 (omega arith) (negated (of-bit (sign lac) (omega arith))))
       (selects (none || spa) sna (selected (none || spa) 6 (omega arith) (of-test (on (ac lac))))
       (selects (none || spa || sna) szl (selected (none || spa || sna) 7 (omega arith) (negated (of-bit (link lac) (omega arith))))
       (ends-decided (skipsReversed i lac)))))
 
-  pub ends-second : Ends v (rows·second v) (inPlaces v o w) (testedIf test (not (on (flag 10 i))) (group2 i o))
+  pub ends-second : Ends v c (rows·second v) (inPlaces v c o w) (testedIf test (not (on (flag 10 i))) (group2 i o))
   unfolding group2 skips
   ends-second =
-      acts (skip-so-far false) refl (skip-stored v o w 0 refl)
-      (decides (under (under (under (under here)))) (λ (t : Bool). ended (pick t (skipsReversed i lac) (skipsPlain i lac))) (on (flag 8 i)) (i-bit v o (skipping false) 8)
+      acts (skip-so-far false) refl (skip-stored v c o w 0 refl)
+      (decides (under (under (under (under here)))) (λ (t : Bool). ended (pick t (skipsReversed i lac) (skipsPlain i lac))) (on (flag 8 i)) (i-bit v c o (skipping false) 8)
       ends-inverted ends-plain)

@@ -8,11 +8,12 @@ use lib.ListN.{length}
 use Rattle.word.specs.Word.{wordBits}
 use Rattle.characters.specs.Ascii.{ascii}
 use Rattle.characters.specs.Named.{Named}
+use Rattle.devices.specs.Devices.{byteBits}
 use Rattle.machine_state.specs.State.{lacBits}
 use Rattle.text_operators.specs.declared.Operator.the-variants.{Join, RotateLeft, RotateRight, Add, Equal, Unequal, And, Or}
 use Rattle.text_code.specs.Tree.{Expr, Destination, register, bitPart, constant, memory, complemented, rotated, binary, toRegister, toPart, toMemory}
 use Rattle.text_declaration.specs.Rows.{Row, does, goes, Description}
-use Rattle.shipped_rows.specs.Variant.{Variant, registersOf}
+use Rattle.shipped_rows.specs.Variant.{Variant, plain, devices, registersOf}
 
 -- "A shipped description's registers that the emulator lacks are its working registers": they follow the machine's
 abbrev pub workingRegisters : List Named
@@ -75,11 +76,70 @@ toRun = toRegister 2 1
 abbrev toEnable : Destination
 toEnable = toRegister 3 1
 
+abbrev toRequest : Destination
+toRequest = toRegister 4 1
+
 abbrev pub one : Expr
 one = constant 2 1
 
 abbrev nought : Expr
 nought = constant 2 0
+
+-- ---- the rows that only some variants have, before the rest
+
+-- the devices' registers
+abbrev keyByte : Expr
+keyByte = register 6 byteBits
+
+abbrev keyboardFlag : Expr
+keyboardFlag = register 7 1
+
+abbrev printerFlag : Expr
+printerFlag = register 8 1
+
+abbrev toKeyboardFlag : Destination
+toKeyboardFlag = toRegister 7 1
+
+abbrev toPrinterFlag : Destination
+toPrinterFlag = toRegister 8 1
+
+abbrev toPrintByte : Destination
+toPrintByte = toRegister 9 byteBits
+
+abbrev toPrintMark : Destination
+toPrintMark = toRegister 10 1
+
+-- AC<4:11>
+abbrev acByte : Expr
+acByte = bitPart 0 lacBits 5 12
+
+abbrev toAcByte : Destination
+toAcByte = toPart 0 lacBits 5 12
+
+-- whether i is a word, and whether it is one of two
+abbrev isWord : ℕ → Expr
+isWord n = binary Equal (register (workAt devices 0) wordBits) (constant 12 n)
+
+abbrev isEither : ℕ → ℕ → Expr
+isEither m n = binary Or (isWord m) (isWord n)
+
+-- the words of keyboard and teleprinter
+abbrev pub rows·devices : Variant → List Row → List Row
+rows·devices plain rest = rest
+rows·devices devices rest =
+    does (binary Or (binary And (isWord 0o6031) keyboardFlag) (binary And (isWord 0o6041) printerFlag)) toPc (binary Add pc one)
+    ∷ does (isEither 0o6032 0o6036) toAc nought
+    ∷ does (isEither 0o6032 0o6036) toKeyboardFlag nought
+    ∷ does (isEither 0o6034 0o6036) toAcByte (binary Or acByte keyByte)
+    ∷ does (isEither 0o6042 0o6046) toPrinterFlag nought
+    ∷ does (isEither 0o6044 0o6046) toPrintByte acByte
+    ∷ does (isEither 0o6044 0o6046) toPrintMark one
+    ∷ rest
+
+-- INTERRUPT.REQUEST by the devices' flags
+abbrev pub rows·request : Variant → List Row → List Row
+rows·request plain rest = rest
+rows·request devices rest = does one toRequest (binary Or keyboardFlag printerFlag) ∷ rest
 
 module _ (v : Variant) where
   -- ---- the working registers, by their places
@@ -135,8 +195,11 @@ module _ (v : Variant) where
   abbrev pub rows·requested : List Row
   rows·requested = goTo (complemented request) rows·restart rows·taken
 
+  abbrev pub rows·enabled : List Row
+  rows·enabled = goTo (complemented enable) rows·restart rows·requested
+
   abbrev pub rows·interrupt : List Row
-  rows·interrupt = goTo (complemented enable) rows·restart rows·requested
+  rows·interrupt = rows·request v rows·enabled
 
   abbrev pub rows·group3 : List Row
   rows·group3 =
@@ -206,7 +269,7 @@ module _ (v : Variant) where
   abbrev pub rows·iof : List Row
   rows·iof =
       does (binary Equal i (constant 12 0o6002)) toEnable nought
-      ∷ goTo one rows·interrupt rows·opr
+      ∷ rows·devices v (goTo one rows·interrupt rows·opr)
 
   abbrev pub rows·iot : List Row
   rows·iot =

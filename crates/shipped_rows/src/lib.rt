@@ -1,4 +1,6 @@
-// The shipped description of the PDP-8.
+// The shipped descriptions of the PDP-8: without devices here, with them in `twin`.
+pub mod twin;
+
 ghost use mathlib.Core.Path.{_≡_};
 ghost use Rattle.shipped_rows.specs.Variant.{plain};
 ghost use Rattle.shipped_rows.specs.Text.{shippedText};

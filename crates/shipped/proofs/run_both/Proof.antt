@@ -1,4 +1,9 @@
 -- `shipped::run_both`: the claim of the two programs' own answers.
+use mathlib.Core.Path.{ap}
+use Rattle.devices.specs.Session.{untouched}
+use Rattle.emulator.specs.Emulate.{Report}
+use Rattle.evaluator.specs.Evaluate as evaluator
+use Rattle.evaluator.specs.Evaluate.{without}
 use Rattle.shipped_rows.specs.Variant.{plain}
 use Rattle.shipped.proofs.Unrefused.{together}
 use borrow.Author.Needs.{needs}
@@ -21,14 +26,16 @@ same-length-3 : tie.Need-same-length-3
 same-length-3 c = search needs
 
 returns : tie.Need-returns
-returns c =
-    let evaluated = c .before .before .before .before in
+returns k =
+    let evaluated = k .before .before .before .before in
     let emulated = evaluated .before .before .before .before .before in
     let start = emulated .before .before .before .before .before in
     let a = start .args in
     let sixteen = start .good .1 .1 .1 .0 in
-    together plain (a .m) (a .registers .values) (a .first .now) (a .second .now) (a .budget) (a .rows .now) _ _ (search needs)
-    (emulated .emulate .ensures) (evaluated .evaluate-shipped .ensures)
+    λ c input left right.
+        together plain (a .m) c (a .registers .values) (a .first .now) (a .second .now) (a .budget) (a .rows .now) input left right _ _ (search needs)
+        (ap (λ (x : Report). record { report = x; devices = c; exchange = untouched left }) (emulated .emulate .ensures))
+        (ap (λ (x : evaluator.Report). without x right) (evaluated .evaluate-shipped .ensures))
 
 pub run-both-spec : {M : Type 1} → statement M
 run-both-spec =

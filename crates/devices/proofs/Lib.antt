@@ -2,3 +2,4 @@ pub mod Starts
 pub mod Held
 pub mod Split
 pub mod Sessions
+pub mod Prints

@@ -4,7 +4,8 @@ use mathlib.Core.Path.{_≡_, refl, sym, ap, _∙_, subst}
 use mathlib.Core.Bool.{Bool, true, false}
 use mathlib.Core.List.{List, [], _∷_, _++_}
 use Prim.Native.Nat.{ℕ, zero, suc, _^_, _<_}
-use lib.ListN.{drop, getD}
+use native.Mathlib.Omega.{arith}
+use lib.ListN.{length, drop, getD}
 use lib.Dec.{lit<}
 use Rattle.laws.proofs.Tests.{by-test}
 use Rattle.word.specs.Choice.{on, pick}
@@ -80,6 +81,24 @@ begun-settled c l =
 pub still-begun : {c : Devices} {l : List ℕ} → Settled c l → begun c l ≡ c
 unfolding begun risen
 still-begun {c} t = ap risen (t .arrived) ∙ case-false (on (c .mark)) (withPrinter 1 0 c) c (t .mark)
+
+-- nor has one that leaves the input as it was, where no mark stands: nothing arrived
+still-received : (c : Devices) (l : List ℕ) → drop 1 l ≡ l → received c l ≡ c
+still-received c [] e = refl
+still-received c (b ∷ l) e = let same : length l ≡ length (b ∷ l) = ap length e in absurd (omega (arith, same))
+
+pub still-unread : (c : Devices) (l : List ℕ) → l ≡ unreadAfter c l → c .mark ≡ 0 → begun c l ≡ c
+unfolding arrived unreadAfter
+still-unread c l e f =
+    still-begun
+    (record {
+      arrived =
+          by-test (on (c .keyboard))
+          (λ t. case-true (on (c .keyboard)) c (received c l) t)
+          (λ t. case-false (on (c .keyboard)) c (received c l) t ∙ still-received c l (sym (e ∙ case-false (on (c .keyboard)) l (drop 1 l) t)));
+      unread = sym e;
+      mark = ap on f;
+    })
 
 pub nothing-printed : {c : Devices} {l : List ℕ} (p : List ℕ) → Settled c l → printedAfter c p ≡ p
 unfolding printedAfter

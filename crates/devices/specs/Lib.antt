@@ -1,3 +1,4 @@
 pub mod Devices
 pub mod Session
 pub mod Held
+pub mod Table

@@ -1,4 +1,4 @@
--- `desk_run_lines::rows::put_rows`: the rows read have been written.
+-- `desk_run_lines::rows::put_rows_of`: the rows read have been written.
 use borrow.Author.Needs.{needs}
 use mathlib.Core.Path.{_≡_}
 use native.Mathlib.Omega.{arith}
@@ -9,17 +9,14 @@ use Rattle.page.proofs.Writing.{written-none, written-then}
 use Rattle.desk_run_lines.specs.Rows.{rowLines}
 use Rattle.desk_run_lines.specs.Sizes.{rowLineBytes}
 use Rattle.desk_run_lines.proofs.RowTexts.{row-line-size, rows-more}
-use Rattle.desk_run_lines.proofs.rows.put_rows.Statement.{statement}
-use Rattle.desk_run_lines.proofs.rows.put_rows.Tie as tie
+use Rattle.desk_run_lines.proofs.rows.put_rows_of.Statement.{statement}
+use Rattle.desk_run_lines.proofs.rows.put_rows_of.Tie as tie
 
 abbrev Inv-loop : tie.InvT-loop
-Inv-loop page₀ at rows n text end₀ i₀ page end i = (i ≤ n) × (end ≤ at + rowLineBytes * i) × Written (rowLines (take i rows)) page₀ at page end
+Inv-loop page₀ at text rows n end₀ i₀ page end i = (i ≤ n) × (end ≤ at + rowLineBytes * i) × Written (rowLines text (take i rows)) page₀ at page end
 
 abbrev μ-loop : tie.MeasureT-loop
-μ-loop page₀ at rows n text end₀ i₀ page end i = n - i
-
-shipped-text-requires : tie.Need-shipped-text-requires Inv-loop μ-loop
-shipped-text-requires c κs = search needs
+μ-loop page₀ at text rows n end₀ i₀ page end i = n - i
 
 loop-holds : tie.Need-loop-holds Inv-loop μ-loop
 unfolding rowLines
@@ -60,13 +57,12 @@ returns c = let at = c .before .loop in
     let all : at .i ≡ c .before .before .before .before .args .n = omega (arith, at .inv .0, c .loop-test .left) in
     record { written = rw all at (at .inv .2); room = omega (arith, at .inv .1) }
 
-pub put-rows-spec : {M : Type 1} → statement M
-put-rows-spec =
+pub put-rows-of-spec : {M : Type 1} → statement M
+put-rows-of-spec =
     tie.close
     (tie.spec
     Inv-loop
     μ-loop
-    shipped-text-requires
     loop-holds
     shared-slice-read-put-row
     put-row-requires

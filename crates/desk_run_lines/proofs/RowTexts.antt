@@ -6,7 +6,7 @@ use mathlib.Core.List.{List, [], _∷_, _++_, append-nil, append-assoc}
 use Prim.Native.Nat.{ℕ, zero, suc, _+_, _-_, _≤_, _<_}
 use native.Mathlib.Numerals.{sub-one, add-one}
 use native.Mathlib.Omega.{arith}
-use lib.Dec.{eqb, leb}
+use lib.Dec.{eqb, leb, lit≤}
 use lib.ListN.{length, getD, take, length-append}
 use lib.Seq.{take-suc}
 use borrow.Author.Tests.{leb-true}
@@ -19,6 +19,7 @@ use Rattle.text_fields.specs.Fields.{before, after, Line, lines, field}
 use Rattle.text_fields.specs.Rests.{firstLine}
 use Rattle.text_fields.proofs.Lines.{first-line}
 use Rattle.laws.proofs.Joined.{and-left, and-right}
+use Rattle.text_limits.specs.Limits.{mostBytes}
 use Rattle.shipped_rows.specs.Variant.{Variant, plain, devices}
 use Rattle.shipped_rows.specs.Text.{shippedText}
 use Rattle.text_targets.specs.Targets.{isRow, passes}
@@ -82,9 +83,15 @@ no-label : (text : List ℕ) → length (labelLine text []) ≤ labelLineBytes
 unfolding run same field labelLine
 no-label text = omega arith
 
+text-size : (v : Variant) → length (shippedText v) ≤ mostBytes
+unfolding shippedText
+text-size plain = lit≤ tt
+text-size devices = lit≤ tt
+
 pub shipped-short : (v : Variant) → Short (shippedText v)
 shipped-short v =
     record {
+      size = text-size v;
       row = λ k. each-within itself rowTextBytes (rowTexts (lines (shippedText v))) (omega arith) (rows-within v) (k - 1);
       label = λ k. each-within (labelLine (shippedText v)) labelLineBytes (rowTexts (lines (shippedText v))) (no-label (shippedText v)) (labels-within v) (k - 1);
     }

@@ -4,6 +4,7 @@ use mathlib.Core.List.{List}
 use Prim.Native.Nat.{ℕ, _+_, _*_, _≤_}
 use lib.ListN.{length}
 use Rattle.page.specs.Written.{Written}
+use Rattle.text_limits.specs.Limits.{mostBytes}
 use Rattle.desk_run_lines.specs.Rows.{rowOf, labelLine}
 
 -- the bytes of the eleven lines of the machine registers, and of the four of the working registers
@@ -25,11 +26,12 @@ labelLineBytes = 16
 abbrev pub rowLineBytes : ℕ
 rowLineBytes = 97
 
--- the texts of a description's rows and the lines of their labels are no longer
+-- a description's text is no longer than a text may be, its rows' texts and the lines of their labels no longer than these
 abbrev pub rowTextBytes : ℕ
 rowTextBytes = 76
 
 pub record Short (text : List ℕ) : Type 0 where
+  pub size : length text ≤ mostBytes
   pub row : (k : ℕ) → length (rowOf k text) ≤ rowTextBytes
   pub label : (k : ℕ) → length (labelLine text (rowOf k text)) ≤ labelLineBytes
 

@@ -11,6 +11,7 @@ ghost use Prim.Native.Nat.{_+_, _-_, _*_, _<_, _≤_};
 ghost use lib.ListN.{length, take};
 ghost use Rattle.word.specs.Choice.{pick};
 ghost use Rattle.page.specs.Written.{Written};
+ghost use Rattle.text_limits.specs.Limits.{mostBytes};
 ghost use Rattle.shipped_rows.specs.Text.{shippedText};
 ghost use Rattle.desk_run_lines.specs.Registers.{variantOf};
 ghost use Rattle.desk_run_lines.specs.Rows.{rowOf, rowBelow, atLine, labelLine, rowLine, rowLines};
@@ -51,6 +52,7 @@ fn row_of(text: &[u8], k: usize) -> &[u8]
 
 // The number of the first row below a label, 0 where the label isn't there.
 fn row_below(text: &[u8], label: &[u8]) -> u64
+    requires { ⌜ length (now text) ≤ mostBytes ⌝ }
     ensures { λ r. ⌜ r ≡ rowBelow (now (label .entry)) (now (text .entry)) ⌝ }
 {
     match text_targets::passes(label, text) {
@@ -73,7 +75,7 @@ fn put_at(page: &mut [u8; PAGE_BYTES], at: usize, label: &[u8], row: u64) -> usi
 
 // The line of the label that a row names, where it is a `go`.
 fn put_label(page: &mut [u8; PAGE_BYTES], at: usize, text: &[u8], line: &[u8]) -> usize
-    requires { ⌜ at + length (labelLine (now text) (now line)) ≤ pageBytes ⌝ }
+    requires { ⌜ length (now text) ≤ mostBytes ⌝ ∗ ⌜ at + length (labelLine (now text) (now line)) ≤ pageBytes ⌝ }
     ensures { λ r. ⌜ Written (labelLine (now (text .entry)) (now (line .entry))) (now (page .entry)) at (now (page .exit)) r ⌝ }
 {
     if characters::is_same(text_fields::field_of(line, 0), b"go") {

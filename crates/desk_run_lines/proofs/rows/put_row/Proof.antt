@@ -26,12 +26,12 @@ of-label c = let start = c .before .before .before .before .before .before in
     rw (c .row-of .ensures) (start .pre .0 .label (start .args .k))
 
 put-decimal-requires : tie.Need-put-decimal-requires
-put-decimal-requires c κs = let start = c .before in
+put-decimal-requires c κs = let start = c .before .before in
     omega (arith, digits start, start .pre .1)
 
 put-byte-requires : tie.Need-put-byte-requires
 put-byte-requires c κs = let number = c .before in
-    let start = number .before .before in
+    let start = number .before .before .before in
     omega (arith, digits start, start .pre .1, number .put-decimal .ensures .place)
 
 row-of-requires : tie.Need-row-of-requires
@@ -39,17 +39,17 @@ row-of-requires c κs = search needs
 
 put-text-requires : tie.Need-put-text-requires
 put-text-requires c κs = let row = c .before in
-    let tab = row .before .before in
+    let tab = row .before in
     let number = tab .before .before in
-    let start = number .before .before in
+    let start = number .before .before .before in
     omega (arith, digits start, text-size row, start .pre .1, number .put-decimal .ensures .place, tab .put-byte .ensures .place)
 
 put-byte-requires-2 : tie.Need-put-byte-requires-2
 put-byte-requires-2 c κs = let text = c .before in
     let row = text .before .before in
-    let tab = row .before .before in
+    let tab = row .before in
     let number = tab .before .before in
-    let start = number .before .before in
+    let start = number .before .before .before in
     let room = start .pre .1 in
     omega (arith, digits start, text-size row, room, number .put-decimal .ensures .place, tab .put-byte .ensures .place, text .put-text .ensures .place)
 
@@ -57,19 +57,19 @@ put-label-requires : tie.Need-put-label-requires
 put-label-requires c κs = let feed = c .before in
     let text = feed .before .before in
     let row = text .before .before in
-    let tab = row .before .before in
+    let tab = row .before in
     let number = tab .before .before in
-    let start = number .before .before in
+    let start = number .before .before .before in
     let room = start .pre .1 in
     let places = number .put-decimal .ensures .place in
-    omega (arith, digits start, text-size row, of-label row, room, places, tab .put-byte .ensures .place, text .put-text .ensures .place, feed .put-byte2 .ensures .place)
+    (start .pre .0 .size, omega (arith, digits start, text-size row, of-label row, room, places, tab .put-byte .ensures .place, text .put-text .ensures .place, feed .put-byte2 .ensures .place))
 
 returns : tie.Need-returns
 unfolding rowLine
 returns c = let feed = c .before .before in
     let text = feed .before .before in
     let row = text .before .before in
-    let tab = row .before .before in
+    let tab = row .before in
     let number = tab .before .before in
     let is = row .row-of .ensures in
     written-then _ _

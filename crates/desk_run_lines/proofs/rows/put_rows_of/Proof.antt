@@ -23,30 +23,29 @@ unfolding rowLines
 loop-holds c = (omega arith, omega arith, written-none _ _)
 
 shared-slice-read-put-row : tie.Need-shared-slice-read-put-row Inv-loop μ-loop
-shared-slice-read-put-row c = let test = c .before .before .before in
+shared-slice-read-put-row c = let test = c .before .before in
     let start = test .before .before .before .before in
-    omega (arith, test .loop-test .taken, start .pre .0)
+    omega (arith, test .loop-test .taken, start .pre .1 .0)
 
 put-row-requires : tie.Need-put-row-requires Inv-loop μ-loop
-put-row-requires c κs = let test = c .before .before .before in
-    let head = test .before in
-    let text = head .before in
-    let start = text .before .before in
-    (text .shipped-text .ensures, omega (arith, head .loop .inv .1, test .loop-test .taken, start .pre .1))
+put-row-requires c κs = let test = c .before .before in
+    let start = test .before .before .before .before in
+    (start .pre .0, omega (arith, test .before .loop .inv .1, test .loop-test .taken, start .pre .1 .1))
 
 add-i : tie.Need-add-i Inv-loop μ-loop
 add-i c = search needs
 
 loop-less : tie.Need-loop-less Inv-loop μ-loop
-loop-less c = omega (arith, c .before .before .before .before .loop-test .taken)
+loop-less c = omega (arith, c .before .before .before .loop-test .taken)
 
 loop-again : tie.Need-loop-again Inv-loop μ-loop
-loop-again c = let test = c .before .before .before .before in
+loop-again c = let test = c .before .before .before in
     let at = test .before .loop in
     let start = test .before .before .before .before in
     let rows = start .args .rows .now in
-    let small = row-line-size (getD rows (at .i) 0) (omega (arith, c .before .shared-slice-known2 .given (at .i))) in
-    let more = rows-more rows (at .i) (omega (arith, test .loop-test .taken, start .pre .0)) in (
+    let text = start .args .text .now in
+    let small = row-line-size text (getD rows (at .i) 0) (start .pre .0) (omega (arith, c .before .shared-slice-known3 .given (at .i))) in
+    let more = rows-more text rows (at .i) (omega (arith, test .loop-test .taken, start .pre .1 .0)) in (
       omega (arith, test .loop-test .taken),
       omega (arith, at .inv .1, c .put-row .ensures .place),
       rw more (written-then _ _ (at .inv .2) (c .put-row .ensures)),

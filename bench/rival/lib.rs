@@ -5,6 +5,8 @@
 pub mod compile;
 pub mod cycle;
 pub mod evaluate;
+pub mod evaluate_devices;
 
 pub use evaluate::evaluate;
+pub use evaluate_devices::evaluate_devices;
 pub use independent::*;

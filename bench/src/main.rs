@@ -1,25 +1,32 @@
 //! The library's speed beside SIMH's pdp8 and the rival in Rust (bench/rival), all sides in turns in one run, as Markdown tables.
 //! Usage: bench WORK DESCRIPTION ROUNDS PERCENT (WORK: a folder for SIMH's command file; PERCENT: how much of the full work each turn does)
 
+#[cfg(baseline)]
+mod baseline;
+mod devices;
 mod entries;
 #[path = "../../harness/library.rs"]
 mod library;
 mod programs;
+mod rates;
 mod simh;
 mod texts;
 mod timing;
 
 use programs::{Program, PROGRAMS};
+use rates::{emulator_rate, evaluator_rate, reader_rate};
 use simh::Simh;
 use std::process::exit;
-use timing::{best, timed};
+use timing::best;
 
 /// The most steps or cycles that one call makes.
 const CALL: u64 = 1_000_000;
 
-struct Bench {
+pub struct Bench {
     simh: Option<Simh>,
     description: Vec<u8>,
+    /// The description with devices.
+    twin: Vec<u8>,
     rounds: usize,
     percent: u64,
 }
@@ -28,48 +35,6 @@ impl Bench {
     fn calls(&self, full: u64) -> u64 {
         (full * self.percent / 100).max(1)
     }
-}
-
-type Emulate = fn(&mut [u16], &mut [u16; 6], u64) -> [u64; 3];
-type Evaluate = fn(&[u8], &mut [u16], &mut [u16; 16], u64, &mut [u8]) -> [u64; 4];
-type Read = fn(&[u8]) -> [u64; 2];
-
-/// Steps a second over so many calls, each from what the last one left, and the end.
-fn emulator_rate(emulate: Emulate, program: &Program, calls: u64, budget: u64) -> (f64, [u16; 6]) {
-    let mut memory = program.memory();
-    let mut registers = [0, 0o200, 1, 0, 0, 0];
-    let seconds = timed(|| {
-        for _ in 0..calls {
-            assert_eq!(emulate(&mut memory, &mut registers, budget), [0, budget, 2]);
-        }
-    });
-    ((calls * budget) as f64 / seconds, registers)
-}
-
-/// Cycles a second of the shipped description, and the end.
-fn evaluator_rate(evaluate: Evaluate, text: &[u8], program: &Program, calls: u64, budget: u64) -> (f64, [u16; 16]) {
-    let mut memory = program.memory();
-    let mut registers = [0; 16];
-    registers[1] = 0o200;
-    registers[2] = 1;
-    let mut rows = [0; 128];
-    let seconds = timed(|| {
-        for _ in 0..calls {
-            let outcome = evaluate(text, &mut memory, &mut registers, budget, &mut rows);
-            assert_eq!([outcome[0], outcome[1], outcome[2]], [0, budget, 2]);
-        }
-    });
-    ((calls * budget) as f64 / seconds, registers)
-}
-
-/// Megabytes a second.
-fn reader_rate(read: Read, text: &[u8], calls: u64) -> f64 {
-    let seconds = timed(|| {
-        for _ in 0..calls {
-            assert_eq!(read(text), [0, 0], "not accepted");
-        }
-    });
-    (calls as usize * text.len()) as f64 / seconds / 1e6
 }
 
 fn must_agree(what: &str, same: bool) {
@@ -174,11 +139,21 @@ fn main() {
         exit(2);
     }
     let description = std::fs::read(&words[1]).unwrap_or_default();
-    let bench = Bench { simh: Simh::new(&words[0]), description, rounds: words[2].parse().unwrap_or(5), percent: words[3].parse().unwrap_or(100) };
+    let (rounds, percent) = (words[2].parse().unwrap_or(5), words[3].parse().unwrap_or(100));
+    let bench = Bench { simh: Simh::new(&words[0]), description, twin: library::shipped(1), rounds, percent };
     println!("Machine: {}. Best of {} rounds, all sides in turns in one run, by processor time.", machine(), bench.rounds);
-    engines(&bench);
-    reader(&bench);
-    growth(&bench);
+    #[cfg(baseline)]
+    return baseline::beside_baseline(&bench);
+    #[cfg(not(baseline))]
+    tables(&bench);
+}
+
+#[cfg_attr(baseline, allow(dead_code))]
+fn tables(bench: &Bench) {
+    engines(bench);
+    devices::with_devices(bench);
+    reader(bench);
+    growth(bench);
     if bench.simh.is_none() {
         println!("\nNot measured: SIMH, which is not installed. Its column is empty.");
     }

@@ -1,4 +1,4 @@
-//! Three programs that never halt and that all machines run alike.
+//! Programs that never halt: three that all machines run alike, and two that speak to the teleprinter.
 
 pub struct Program {
     pub name: &'static str,
@@ -28,6 +28,19 @@ pub const PROGRAMS: [Program; 3] = [
         name: "operate",
         // CLA CLL; IAC RAL; CMA CML; RTR; SZA; IAC; SNL; CMA; CLL RTL; SMA; CML; SKP; NOP; CLA CMA RAR; SZL; IAC; JMP 0201
         words: &[(0o200, &[0o7300, 0o7005, 0o7060, 0o7012, 0o7440, 0o7001, 0o7420, 0o7040, 0o7106, 0o7500, 0o7020, 0o7410, 0o7000, 0o7250, 0o7430, 0o7001, 0o5201])],
+    },
+];
+
+pub const DEVICE_PROGRAMS: [Program; 2] = [
+    Program {
+        name: "polls all day",
+        // TSF, JMP 0200
+        words: &[(0o200, &[0o6041, 0o5200])],
+    },
+    Program {
+        name: "prints all day",
+        // TLS, IAC, JMP 0200
+        words: &[(0o200, &[0o6046, 0o7001, 0o5200])],
     },
 ];
 

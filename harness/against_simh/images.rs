@@ -10,8 +10,10 @@ pub struct Image {
     pub pc: u16,
     pub switches: u16,
     pub interrupt_enable: u16,
-    /// Stays as it is: SIMH's request of a device that no compared word speaks to.
+    /// Without devices it stays as it is: SIMH's request of a device that no compared word speaks to.
     pub interrupt_request: u16,
+    /// KEY.BYTE, KEYBOARD.FLAG, PRINTER.FLAG, PRINT.BYTE, PRINT.MARK of a machine with devices.
+    pub devices: Option<[u16; 5]>,
     /// Steps to compare after.
     pub budgets: Vec<u64>,
     /// Words that the program is to leave: address and word.
@@ -96,7 +98,7 @@ pub fn random_image(random: &mut Random, name: String) -> Image {
     let budgets = vec![random.between(1, most) as u64];
     let (lac, switches) = (random.bits(13), random.bits(12));
     let (interrupt_enable, interrupt_request) = (random.bits(1), u16::from(random.once_in(3)));
-    Image { name, memory, lac, pc, switches, interrupt_enable, interrupt_request, budgets, expected: Vec::new() }
+    Image { name, memory, lac, pc, switches, interrupt_enable, interrupt_request, devices: None, budgets, expected: Vec::new() }
 }
 
 /// One word of the second group of op 7, with INTERRUPT.ENABLE and INTERRUPT.REQUEST both 1, or after the 6001 that enables.
@@ -110,7 +112,7 @@ pub fn pending_image(random: &mut Random, word: u16, enabled_before: bool) -> Im
     let name = format!("pending{:o}{}", word, u16::from(enabled_before));
     let (lac, switches) = (random.bits(13), random.bits(12));
     let budgets = vec![if enabled_before { 1 } else { 2 }];
-    Image { name, memory, lac, pc, switches, interrupt_enable: u16::from(enabled_before), interrupt_request: 1, budgets, expected: Vec::new() }
+    Image { name, memory, lac, pc, switches, interrupt_enable: u16::from(enabled_before), interrupt_request: 1, devices: None, budgets, expected: Vec::new() }
 }
 
 /// The words of the second group of op 7 that both machines are meant to run alike, halts and others.

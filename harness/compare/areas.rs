@@ -2,6 +2,9 @@
 
 use crate::cases::{Case, EvaluateStart};
 use crate::damage::damage;
+use crate::device_edges::{self, DeviceEdge};
+use crate::device_starts::{self, of_twin, DeviceEvaluateStart, WORDS};
+use crate::device_texts;
 use crate::edges::{edges, Edge};
 use crate::images;
 use crate::limits::{limits, Limit};
@@ -10,7 +13,7 @@ use crate::questions;
 use crate::random::Random;
 use crate::states::{spoil, State};
 use crate::texts;
-use independent::description::description;
+use independent::description::{description, Description};
 use independent::machine::WIDTHS;
 use std::sync::Arc;
 
@@ -18,7 +21,7 @@ use std::sync::Arc;
 const FIRST_QUESTION: u64 = 4096 + questions::UNFIT as u64;
 
 /// An area's name, and how many cases of it one run tries.
-pub const AREAS: [(&str, u64); 12] = [
+pub const AREAS: [(&str, u64); 19] = [
     ("emulate", 50_000),
     ("emulate-state", 12_000),
     ("limits", 0),
@@ -31,6 +34,13 @@ pub const AREAS: [(&str, u64); 12] = [
     ("shipped", 6_000),
     ("listing", 1_000),
     ("explain", FIRST_QUESTION + 3_000),
+    ("devices", 30_000),
+    ("devices-state", 8_000),
+    ("device-edges", 0),
+    ("device-words", WORDS.len() as u64 * 400),
+    ("device-texts", 20_000),
+    ("device-splits", 6_000),
+    ("twin", 4_000),
 ];
 
 pub struct Maker {
@@ -40,14 +50,24 @@ pub struct Maker {
     pub explain: Arc<Program>,
     pub limits: Vec<Limit>,
     pub edges: Vec<Edge>,
+    pub device_edges: Vec<DeviceEdge>,
+    /// The library's description with devices.
+    pub twin: Vec<u8>,
+    twin_read: Option<Description>,
 }
 
 impl Maker {
-    /// With the paths of the two programs.
-    pub fn new(seed: u64, shipped: Vec<u8>, listing: &str, explain: &str) -> Maker {
+    /// With the two shipped descriptions and the paths of the two programs.
+    pub fn new(seed: u64, shipped: Vec<u8>, twin: Vec<u8>, listing: &str, explain: &str) -> Maker {
         let program = |name, path: &str| Arc::new(Program { name, path: path.to_string(), shipped: shipped.clone() });
         let (listing, explain) = (program("listing", listing), program("explain", explain));
-        Maker { seed, shipped, listing, explain, limits: limits(), edges: edges() }
+        let twin_read = description(&twin).ok();
+        Maker { seed, shipped, listing, explain, limits: limits(), edges: edges(), device_edges: device_edges::edges(), twin, twin_read }
+    }
+
+    /// Whether an area needs the description with devices, and the library's is not to be had or not accepted.
+    pub fn lacks_twin(&self, area: usize) -> bool {
+        ["device-edges", "device-splits", "twin"].contains(&AREAS[area].0) && self.twin_read.is_none()
     }
 
     /// The program that an area is about, if it is about one.
@@ -64,6 +84,7 @@ impl Maker {
         match AREAS[area] {
             ("limits", _) => self.limits.len() as u64,
             ("edges", _) => self.edges.len() as u64,
+            ("device-edges", _) => self.device_edges.len() as u64,
             (_, cases) => cases * percent / 100,
         }
     }
@@ -82,6 +103,11 @@ impl Maker {
         if AREAS[area].0 == "edges" { self.edges.get(case as usize) } else { None }
     }
 
+    /// The edge that a case of area `device-edges` is.
+    pub fn device_edge(&self, area: usize, case: u64) -> Option<&DeviceEdge> {
+        if AREAS[area].0 == "device-edges" { self.device_edges.get(case as usize) } else { None }
+    }
+
     /// What is compared under one number.
     pub fn cases(&self, area: usize, case: u64) -> Vec<Case> {
         let mut random = Random::of_case(self.seed, area, case);
@@ -91,7 +117,9 @@ impl Maker {
             "emulate-state" => vec![bad_emulation(r)],
             "limits" => {
                 let limit = &self.limits[case as usize];
-                vec![Case::Known(limit.text.clone(), limit.answer), Case::Evaluate(with_state(r, limit.text.clone()))]
+                let start = with_state(r, limit.text.clone());
+                let with_devices = DeviceEvaluateStart { start: start.clone(), input: vec![9], output: vec![7; 3] };
+                vec![Case::Known(limit.text.clone(), limit.answer), Case::Evaluate(start), Case::EvaluateDevices(with_devices)]
             }
             "edges" => vec![self.edges[case as usize].case.clone()],
             "words" => vec![Case::Emulate(images::one_word(r, (case % 4096) as u16))],
@@ -118,7 +146,64 @@ impl Maker {
             "explain" if case < 4096 => vec![Case::Print(self.explain.clone(), questions::one_word(r, case as u16))],
             "explain" if case < FIRST_QUESTION => vec![Case::Print(self.explain.clone(), questions::unfit_question(r, case as usize - 4096))],
             "explain" => vec![Case::Print(self.explain.clone(), questions::question(r))],
+            "devices" => vec![Case::EmulateDevices(device_starts::start(r))],
+            "devices-state" => vec![Case::EmulateDevices(device_starts::spoiled(r))],
+            "device-edges" => self.by_both(self.device_edges[case as usize].case.clone()),
+            "device-words" => vec![Case::EmulateDevices(device_starts::one_word(r, WORDS[case as usize % WORDS.len()]))],
+            "device-texts" => {
+                let start = self.device_text(r);
+                vec![Case::Evaluate(start.start.clone()), Case::EvaluateDevices(start)]
+            }
+            "device-splits" => vec![self.split(r)],
+            "twin" => vec![Case::Twin(self.twin_start(r))],
             name => unreachable!("no area {}", name),
+        }
+    }
+
+    /// A description that speaks of the devices' registers, now and then spoiled or with a spoiled state, or one that reaches a limit.
+    fn device_text(&self, random: &mut Random) -> DeviceEvaluateStart {
+        let mut text = if random.once_in(40) { random.pick(&self.limits).text.clone() } else { device_texts::text(random) };
+        if random.once_in(12) {
+            damage(random, &mut text);
+        }
+        let mut start = with_state(random, text);
+        start.budget = start.budget.min(1_000);
+        if random.once_in(12) {
+            spoil_evaluation(random, &mut start);
+        }
+        DeviceEvaluateStart { start, input: device_starts::input(random), output: device_starts::output(random) }
+    }
+
+    /// A run in two calls: by the emulator, by the description with devices, or by any description.
+    fn split(&self, random: &mut Random) -> Case {
+        let case = match random.below(3) {
+            0 => Case::EvaluateDevices(self.twin_start(random)),
+            1 => Case::EvaluateDevices(self.device_text(random)),
+            _ => Case::EmulateDevices(device_starts::start(random)),
+        };
+        Case::Split(Box::new(case), device_starts::first_budget(random))
+    }
+
+    /// A case of the emulator with devices, and the same of the description with devices.
+    fn by_both(&self, case: Case) -> Vec<Case> {
+        match (&case, &self.twin_read) {
+            (Case::EmulateDevices(machine), Some(twin)) => {
+                let rows = EvaluateStart { text: self.twin.clone(), memory: Vec::new(), registers: [0; 16], budget: 0, rows: vec![9; 128] };
+                let same = Case::Twin(of_twin(machine, twin, rows));
+                vec![case, same]
+            }
+            _ => vec![case],
+        }
+    }
+
+    /// The description with devices on a random image, its working registers holding anything that fits.
+    fn twin_start(&self, random: &mut Random) -> DeviceEvaluateStart {
+        let mut machine = device_starts::start(random);
+        machine.start.budget = machine.start.budget.min(2_000);
+        let start = with_state(random, self.twin.clone());
+        match &self.twin_read {
+            Some(twin) => of_twin(&machine, twin, start),
+            None => DeviceEvaluateStart { start, input: machine.input, output: machine.output },
         }
     }
 }
@@ -164,11 +249,15 @@ fn bad_evaluation(random: &mut Random, mut text: Vec<u8>) -> Case {
         damage(random, &mut text);
     }
     let mut start = with_state(random, text);
+    spoil_evaluation(random, &mut start);
+    Case::Evaluate(start)
+}
+
+fn spoil_evaluation(random: &mut Random, start: &mut EvaluateStart) {
     let widths = widths(&start.text);
     let mut state =
         State { memory: &mut start.memory, registers: &mut start.registers, widths: &widths, budget: &mut start.budget, rows: Some(&mut start.rows) };
     spoil(random, &mut state);
-    Case::Evaluate(start)
 }
 
 /// The shipped description on a random image, its working registers holding anything that fits.

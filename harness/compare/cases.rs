@@ -1,6 +1,8 @@
 //! One case of each kind: how it is compared, made smaller and printed.
 
 use crate::coverage::Coverage;
+use crate::device_cases;
+use crate::device_starts::{DeviceEvaluateStart, DeviceStart};
 use crate::entries;
 use crate::images::Start;
 use crate::programs::{self, Program};
@@ -27,6 +29,12 @@ pub enum Case {
     Shipped(EvaluateStart),
     /// A program and its input.
     Print(Arc<Program>, Vec<u8>),
+    EmulateDevices(DeviceStart),
+    EvaluateDevices(DeviceEvaluateStart),
+    /// The shipped description with devices, by the evaluator and by the emulator.
+    Twin(DeviceEvaluateStart),
+    /// One of the two engines with devices in two calls, the first with this budget.
+    Split(Box<Case>, u64),
 }
 
 /// What is different, if anything is.
@@ -44,22 +52,26 @@ pub fn difference(case: &Case, coverage: &mut Coverage) -> Option<String> {
         Case::Evaluate(start) => evaluated(start, coverage),
         Case::Shipped(start) => shipped(start, coverage),
         Case::Print(program, input) => programs::difference(program, input, coverage),
+        Case::EmulateDevices(start) => device_cases::emulated(start, coverage),
+        Case::EvaluateDevices(start) => device_cases::evaluated(start, coverage),
+        Case::Twin(start) => device_cases::twin(start, coverage),
+        Case::Split(case, first) => device_cases::split(case, *first),
     }
 }
 
-fn unequal<T: PartialEq + std::fmt::Debug>(what: &str, library: T, rust: T) -> Option<String> {
+pub fn unequal<T: PartialEq + std::fmt::Debug>(what: &str, library: T, rust: T) -> Option<String> {
     if library == rust { None } else { Some(format!("{}: library {:?}, Rust {:?}", what, library, rust)) }
 }
 
-fn unequal_words(what: &str, library: &[u16], rust: &[u16]) -> Option<String> {
+pub fn unequal_words(what: &str, library: &[u16], rust: &[u16]) -> Option<String> {
     let place = (0..library.len()).find(|i| library[*i] != rust[*i])?;
     Some(format!("{} {:04o}: library {:04o}, Rust {:04o}", what, place, library[place], rust[place]))
 }
 
-/// The first place of the row list that differs.
-fn unequal_rows(library: &[u8], rust: &[u8]) -> Option<String> {
+/// The first place of a row list or an output that differs.
+pub fn unequal_bytes(what: &str, library: &[u8], rust: &[u8]) -> Option<String> {
     let place = (0..library.len()).find(|i| library[*i] != rust[*i])?;
-    Some(format!("row list, place {} from 0: library {}, Rust {}", place, library[place], rust[place]))
+    Some(format!("{}, place {} from 0: library {}, Rust {}", what, place, library[place], rust[place]))
 }
 
 fn emulated(start: &Start, coverage: &mut Coverage) -> Option<String> {
@@ -109,7 +121,7 @@ fn evaluated(start: &EvaluateStart, coverage: &mut Coverage) -> Option<String> {
     }
     unequal("outcome", outcome, rust)
         .or_else(|| unequal("registers", library.registers, own.registers))
-        .or_else(|| unequal_rows(&library.rows, &own.rows))
+        .or_else(|| unequal_bytes("row list", &library.rows, &own.rows))
         .or_else(|| unequal_words("memory", &library.memory, &own.memory))
 }
 

@@ -1,5 +1,6 @@
 //! How often each thing that has to be tried was tried: instruction words, refusals, operators, destinations, limits.
 
+use crate::device_coverage::{self, DeviceCoverage};
 use crate::{edges, limits};
 use independent::description::{Description, Row};
 use independent::expression::{Binary, Destination, Expression, Kind};
@@ -18,6 +19,8 @@ pub struct Coverage {
     just_stored: Option<u16>,
     /// How often each of EVENTS happened.
     events: [u64; 9],
+    /// What happened with devices.
+    devices: DeviceCoverage,
 }
 
 /// Places in EVENTS.
@@ -45,7 +48,15 @@ const EVENTS: [&str; 9] = [
 
 impl Coverage {
     pub fn new() -> Coverage {
-        Coverage { counts: BTreeMap::new(), words: vec![0; 4096], explained: vec![0; 4096], stored: vec![false; 4096], just_stored: None, events: [0; 9] }
+        Coverage {
+            counts: BTreeMap::new(),
+            words: vec![0; 4096],
+            explained: vec![0; 4096],
+            stored: vec![false; 4096],
+            just_stored: None,
+            events: [0; 9],
+            devices: DeviceCoverage::new(),
+        }
     }
 
     pub fn count(&mut self, name: &str) {
@@ -65,6 +76,7 @@ impl Coverage {
         self.words.iter_mut().zip(&other.words).for_each(|(own, count)| *own += count);
         self.explained.iter_mut().zip(&other.explained).for_each(|(own, count)| *own += count);
         self.events.iter_mut().zip(&other.events).for_each(|(own, count)| *own += count);
+        self.devices.add(&other.devices);
     }
 
     /// Before each run, so that rewritten words are told from the others.
@@ -167,6 +179,7 @@ impl Coverage {
         missing.extend((0..4096).filter(|i| self.words[*i] == 0).map(|i| format!("instruction {:04o}", i)));
         missing.extend((0..4096).filter(|i| self.explained[*i] == 0).map(|i| format!("instruction {:04o} explained", i)));
         missing.extend((0..EVENTS.len()).filter(|i| self.events[*i] == 0).map(|i| EVENTS[i].to_string()));
+        missing.extend(self.devices.missing());
         missing
     }
 
@@ -177,6 +190,7 @@ impl Coverage {
         for (count, name) in self.events.iter().zip(EVENTS) {
             println!("{:>12}  {}", count, name);
         }
+        self.devices.print();
         for op in 0..8 {
             let of_op = &self.words[op * 512..(op + 1) * 512];
             println!("{:>12}  steps of op {}, each of its 512 words at least {} times", of_op.iter().sum::<u64>(), op, of_op.iter().min().unwrap_or(&0));
@@ -185,7 +199,7 @@ impl Coverage {
 
     /// The things to be tried, and how many steps were watched.
     pub fn totals(&self) -> (usize, u64) {
-        (required().len() + 2 * 4096 + EVENTS.len(), self.words.iter().sum())
+        (required().len() + 2 * 4096 + EVENTS.len() + DeviceCoverage::things(), self.words.iter().sum())
     }
 }
 
@@ -243,6 +257,7 @@ fn required() -> Vec<String> {
             names.push(format!("exactly: {}", limit));
         }
     }
+    names.extend(device_coverage::required());
     names
 }
 
@@ -267,6 +282,7 @@ impl Watch for Coverage {
             Event::Skipped => self.events[SKIP] += 1,
             Event::Interrupted => self.events[INTERRUPT] += 1,
             Event::HaltedPending => self.events[HALT_PENDING] += 1,
+            _ => self.devices.saw(event),
         }
     }
 }

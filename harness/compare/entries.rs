@@ -5,19 +5,19 @@ use crate::library::{first, guavachisel_emulate, guavachisel_evaluate, guavachis
 const GUARDS: usize = 16;
 
 /// Values between guards.
-struct Guarded<T> {
+pub struct Guarded<T> {
     places: Vec<T>,
     guard: T,
 }
 
 impl<T: Copy + PartialEq> Guarded<T> {
-    fn new(values: &[T], guard: T) -> Guarded<T> {
+    pub fn new(values: &[T], guard: T) -> Guarded<T> {
         let mut places = vec![guard; values.len() + 2 * GUARDS];
         places[GUARDS..GUARDS + values.len()].copy_from_slice(values);
         Guarded { places, guard }
     }
 
-    fn pointer(&mut self) -> *mut T {
+    pub fn pointer(&mut self) -> *mut T {
         self.places[GUARDS..].as_mut_ptr()
     }
 
@@ -30,8 +30,13 @@ impl<T: Copy + PartialEq> Guarded<T> {
         self.places[..GUARDS].iter().chain(&self.places[end..]).all(|place| *place == self.guard)
     }
 
+    /// Whether nothing was written to, neither values nor guards.
+    pub fn stayed(&self, values: &[T]) -> bool {
+        self.values() == values && self.unharmed()
+    }
+
     /// Takes the values back; the guards must have stayed.
-    fn take_back(&self, into: &mut [T], what: &str) {
+    pub fn take_back(&self, into: &mut [T], what: &str) {
         into.copy_from_slice(self.values());
         assert!(self.unharmed(), "written outside the {}", what);
     }
@@ -53,7 +58,7 @@ pub fn read(text: &[u8]) -> [u64; 2] {
     let mut bytes = Guarded::new(text, b'1');
     let mut outcome = Guarded::new(&[77; OUTCOME_PLACES], u64::MAX - 5);
     unsafe { guavachisel_read(bytes.pointer(), text.len(), outcome.pointer()) };
-    assert!(bytes.values() == text && bytes.unharmed(), "the text was written to");
+    assert!(bytes.stayed(text), "the text was written to");
     let mut answer = [0; OUTCOME_PLACES];
     outcome.take_back(&mut answer, "outcome");
     first(answer)
@@ -78,7 +83,7 @@ pub fn evaluate(text: &[u8], memory: &mut [u16], registers: &mut [u16; 16], budg
             outcome.pointer(),
         )
     };
-    assert!(bytes.values() == text && bytes.unharmed(), "the text was written to");
+    assert!(bytes.stayed(text), "the text was written to");
     words.take_back(memory, "memory");
     values.take_back(registers, "registers");
     list.take_back(rows, "row list");

@@ -7,6 +7,12 @@ mod areas;
 mod cases;
 mod coverage;
 mod damage;
+mod device_cases;
+mod device_coverage;
+mod device_edges;
+mod device_entries;
+mod device_starts;
+mod device_texts;
 mod edges;
 mod entries;
 mod expressions;
@@ -104,6 +110,13 @@ fn compare_cases(maker: &Maker, area: usize, range: Range<u64>) -> (u64, Coverag
             let _alone = REPORT.lock();
             fail(AREAS[area].0, maker.seed, number, &found);
         }
+        if let Some(edge) = maker.device_edge(area, number) {
+            coverage.count(&format!("edge: {}", edge.name));
+            if let Some(found) = device_edges::unmet(edge) {
+                let _alone = REPORT.lock();
+                fail(AREAS[area].0, maker.seed, number, &found);
+            }
+        }
         for case in maker.cases(area, number) {
             compared += 1;
             if let Some(found) = shrink::check(&case, &mut coverage) {
@@ -131,7 +144,7 @@ fn main() {
         exit(2)
     });
     std::panic::set_hook(Box::new(|_| {}));
-    let maker = Maker::new(options.seed, shipped, &options.listing, &options.explain);
+    let maker = Maker::new(options.seed, shipped, library::shipped(1), &options.listing, &options.explain);
     let mut coverage = Coverage::new();
     let mut counts = Vec::new();
     for area in wanted(&maker, &options) {
@@ -151,6 +164,10 @@ fn wanted(maker: &Maker, options: &Options) -> Vec<usize> {
     let areas: Vec<usize> = (0..AREAS.len()).filter(|area| named(AREAS[*area].0)).collect();
     if let Some(program) = areas.iter().filter_map(|area| maker.program(*area)).find(|program| !program.is_built()) {
         println!("not compared: {} is not built", program.path);
+        exit(1);
+    }
+    if areas.iter().any(|area| maker.lacks_twin(*area)) {
+        println!("not compared: the library's description with devices is not accepted, or there is none");
         exit(1);
     }
     areas

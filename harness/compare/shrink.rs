@@ -19,12 +19,14 @@ fn differs(case: &Case) -> bool {
     check(case, &mut Coverage::new()).is_some()
 }
 
-/// The smallest budget at which it still differs; then lines dropped, then words cleared.
+/// The smallest budget at which it still differs; then lines dropped, then words cleared, then input and room taken away.
 pub fn shrunk(case: &Case) -> Case {
     let mut small = case.clone();
     shrink_budget(&mut small);
     shrink_text(&mut small);
     shrink_memory(&mut small);
+    shrink_bytes(&mut small, input);
+    shrink_bytes(&mut small, output);
     small
 }
 
@@ -32,6 +34,9 @@ fn budget(case: &mut Case) -> Option<&mut u64> {
     match case {
         Case::Emulate(start) => Some(&mut start.budget),
         Case::Evaluate(start) | Case::Shipped(start) => Some(&mut start.budget),
+        Case::EmulateDevices(lent) => Some(&mut lent.start.budget),
+        Case::EvaluateDevices(lent) | Case::Twin(lent) => Some(&mut lent.start.budget),
+        Case::Split(case, _) => budget(case),
         _ => None,
     }
 }
@@ -58,6 +63,8 @@ fn text(case: &mut Case) -> Option<&mut Vec<u8>> {
         Case::Read(text) => Some(text),
         Case::Evaluate(start) => Some(&mut start.text),
         Case::Print(_, input) => Some(input),
+        Case::EvaluateDevices(lent) => Some(&mut lent.start.text),
+        Case::Split(case, _) => text(case),
         _ => None,
     }
 }
@@ -90,6 +97,9 @@ fn memory(case: &mut Case) -> Option<&mut Vec<u16>> {
     match case {
         Case::Emulate(start) => Some(&mut start.memory),
         Case::Evaluate(start) | Case::Shipped(start) => Some(&mut start.memory),
+        Case::EmulateDevices(lent) => Some(&mut lent.start.memory),
+        Case::EvaluateDevices(lent) | Case::Twin(lent) => Some(&mut lent.start.memory),
+        Case::Split(case, _) => memory(case),
         _ => None,
     }
 }
@@ -119,6 +129,39 @@ fn shrink_memory(case: &mut Case) {
     }
 }
 
+fn input(case: &mut Case) -> Option<&mut Vec<u8>> {
+    match case {
+        Case::EmulateDevices(lent) => Some(&mut lent.input),
+        Case::EvaluateDevices(lent) | Case::Twin(lent) => Some(&mut lent.input),
+        Case::Split(case, _) => input(case),
+        _ => None,
+    }
+}
+
+fn output(case: &mut Case) -> Option<&mut Vec<u8>> {
+    match case {
+        Case::EmulateDevices(lent) => Some(&mut lent.output),
+        Case::EvaluateDevices(lent) | Case::Twin(lent) => Some(&mut lent.output),
+        Case::Split(case, _) => output(case),
+        _ => None,
+    }
+}
+
+/// The fewest bytes, from the first on, with which it still differs.
+fn shrink_bytes(case: &mut Case, bytes: fn(&mut Case) -> Option<&mut Vec<u8>>) {
+    let count = bytes(case).map_or(0, |b| b.len());
+    for fewer in 0..count {
+        let mut trial = case.clone();
+        if let Some(b) = bytes(&mut trial) {
+            b.truncate(fewer);
+        }
+        if differs(&trial) {
+            *case = trial;
+            return;
+        }
+    }
+}
+
 pub fn print(case: &Case) {
     match case {
         Case::Emulate(start) => print_state(&start.memory, &start.registers, start.budget),
@@ -129,7 +172,27 @@ pub fn print(case: &Case) {
             println!("row list places: {}", start.rows.len());
         }
         Case::Shipped(start) => print_state(&start.memory, &start.registers, start.budget),
+        Case::EmulateDevices(lent) => {
+            print_state(&lent.start.memory, &lent.start.registers, lent.start.budget);
+            println!("devices (decimal): {:?}", lent.devices);
+            print_lines(&lent.input, &lent.output);
+        }
+        Case::EvaluateDevices(lent) | Case::Twin(lent) => {
+            if matches!(case, Case::EvaluateDevices(_)) {
+                print_text(&lent.start.text);
+            }
+            print_state(&lent.start.memory, &lent.start.registers, lent.start.budget);
+            print_lines(&lent.input, &lent.output);
+        }
+        Case::Split(case, first) => {
+            print(case);
+            println!("the first call's budget: {}", first);
+        }
     }
+}
+
+fn print_lines(input: &[u8], output: &[u8]) {
+    println!("input: {:?}; room: {}", input, output.len());
 }
 
 fn print_text(text: &[u8]) {

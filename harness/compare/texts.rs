@@ -76,7 +76,7 @@ fn body(random: &mut Random, registers: &[Register], size: &Size) -> Vec<String>
 }
 
 /// A row no longer than a line may be: a `go` if there is a label, else a `do`.
-fn row(random: &mut Random, registers: &[Register], most: usize, label: &str) -> String {
+pub fn row(random: &mut Random, registers: &[Register], most: usize, label: &str) -> String {
     loop {
         let pieces = most.min(*random.pick(&[1, 3, 5, 8, 12, 20, 32]));
         let depth = random.between(0, 8);

@@ -1,6 +1,6 @@
 //! The emulator's entry: refusals 11 to 14, then steps while RUN is 1 and fewer than the budget are done.
 
-use crate::machine::{step, Machine, Memory, WIDTHS};
+use crate::machine::{step, Machine, Memory, Nothing, WIDTHS};
 use crate::state::{check, HALTED, SPENT};
 use crate::watch::{Unwatched, Watch};
 
@@ -9,7 +9,7 @@ use crate::watch::{Unwatched, Watch};
 pub fn run<W: Watch>(memory: &mut Memory, machine: &mut Machine, budget: u64, watch: &mut W) -> (u64, u64) {
     let mut steps = 0;
     while machine.run == 1 && steps < budget {
-        step(memory, machine, watch);
+        step(memory, machine, &mut Nothing, watch);
         steps += 1;
     }
     (steps, if machine.run == 0 { HALTED } else { SPENT })

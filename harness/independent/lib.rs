@@ -1,10 +1,13 @@
-//! Document 01 in plain Rust, written from the document alone: it shares no code and no tables with the Rattle sources.
-//! `emulate`, `read` and `evaluate` answer as the C entries of include/guavachisel.h do; `listing` is the day listing, and
-//! `explain` the desk's program, which README.md and docs/DECISIONS.md describe.
+//! Documents 01 and 02 in plain Rust, written from the documents alone: it shares no code and no tables with the Rattle sources.
+//! `emulate`, `read` and `evaluate`, and the two with devices, answer as the C entries of include/guavachisel.h do; `listing` is
+//! the day listing, and `explain` the desk's program, which README.md and docs/DECISIONS.md describe.
 
 pub mod description;
+pub mod devices;
 pub mod emulate;
+pub mod emulate_devices;
 pub mod evaluate;
+pub mod evaluate_devices;
 pub mod explain;
 pub mod expression;
 pub mod lines;
@@ -20,6 +23,8 @@ pub mod watch;
 
 pub use description::read;
 pub use emulate::emulate;
+pub use emulate_devices::emulate_devices;
 pub use evaluate::evaluate;
+pub use evaluate_devices::evaluate_devices;
 pub use explain::explain;
 pub use listing::listing;

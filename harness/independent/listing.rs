@@ -1,6 +1,6 @@
 //! The day listing: from the bytes of an image to the bytes printed.
 
-use crate::machine::{step, word_at, Machine, Memory, WORDS};
+use crate::machine::{step, word_at, Machine, Memory, Nothing, WORDS};
 use crate::watch::Unwatched;
 
 const STEPS: u32 = 16;
@@ -50,7 +50,7 @@ pub fn listing(input: &[u8]) -> String {
     let mut steps = 0;
     while machine.run == 1 && steps < STEPS {
         let (pc, i) = (machine.pc, word_at(&memory, machine.pc));
-        step(&mut memory, &mut machine, &mut Unwatched);
+        step(&mut memory, &mut machine, &mut Nothing, &mut Unwatched);
         steps += 1;
         page += &format!("{}\t{:04o}\t{:04o}\t{:05o}\t{}\n", steps, pc, i, machine.lac, machine.run);
     }

@@ -77,9 +77,25 @@ pub fn store<W: Watch>(memory: &mut Memory, address: u16, word: u16, watch: &mut
     memory[(address & WORD) as usize] = word;
 }
 
+/// What stands outside the machine. Without devices it is nothing: op 6 has no other words, and INTERRUPT.REQUEST stays as it came.
+pub trait Outside {
+    /// A word of op 6 other than 6001 and 6002.
+    #[inline(always)]
+    fn instruction<W: Watch>(&mut self, _machine: &mut Machine, _i: u16, _watch: &mut W) {}
+
+    /// An interrupt test is about to be made.
+    #[inline(always)]
+    fn before_test<W: Watch>(&self, _machine: &mut Machine, _watch: &mut W) {}
+}
+
+/// No devices.
+pub struct Nothing;
+
+impl Outside for Nothing {}
+
 /// One step: fetch, PC + 1, execute, interrupt test, which 6001 and a halt omit.
 #[inline(always)]
-pub fn step<W: Watch>(memory: &mut Memory, machine: &mut Machine, watch: &mut W) {
+pub fn step<O: Outside, W: Watch>(memory: &mut Memory, machine: &mut Machine, outside: &mut O, watch: &mut W) {
     let i = word_at(memory, machine.pc);
     watch.saw(Event::Fetched(machine.pc, i));
     let last_pc = machine.pc;
@@ -93,6 +109,7 @@ pub fn step<W: Watch>(memory: &mut Memory, machine: &mut Machine, watch: &mut W)
             if i == 0o6002 {
                 machine.interrupt_enable = 0;
             }
+            outside.instruction(machine, i, watch);
         }
         7 => {
             operate(machine, i, watch);
@@ -103,6 +120,7 @@ pub fn step<W: Watch>(memory: &mut Memory, machine: &mut Machine, watch: &mut W)
         }
         _ => memory_reference(memory, machine, i, last_pc, watch),
     }
+    outside.before_test(machine, watch);
     interrupt_test(memory, machine, watch);
 }
 

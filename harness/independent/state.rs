@@ -10,6 +10,7 @@ pub const ROW_PLACES: usize = 128;
 /// Reasons, as the C interface numbers them.
 pub const HALTED: u64 = 1;
 pub const SPENT: u64 = 2;
+pub const PAPER: u64 = 3;
 
 /// A refusal: its number, and the line or place.
 #[derive(Clone, Copy, PartialEq, Eq, Debug)]

@@ -17,6 +17,18 @@ pub enum Event {
     Interrupted,
     /// A step set RUN to 0 with both registers 1.
     HaltedPending,
+    /// This word is executed by the machine with devices.
+    WithDevices(u16),
+    /// An input byte arrived.
+    Arrived,
+    /// The printer flag rose.
+    Risen,
+    /// A byte was printed.
+    Printed,
+    /// The machine with devices is interrupted: whether by the keyboard's flag, and whether by the printer's.
+    InterruptedBy(bool, bool),
+    /// A step without an interrupt test left INTERRUPT.REQUEST other than the flags.
+    RequestStays,
 }
 
 pub trait Watch {

@@ -9,7 +9,7 @@ use native.Mathlib.Omega.{arith}
 use lib.ListN.{length, take, set, length-set}
 use lib.Seq.{length-take-le, take-suc-set}
 use Rattle.laws.proofs.Tests.{by-test}
-use Rattle.word.specs.Choice.{on, pick}
+use Rattle.word.specs.Choice.{on}
 use Rattle.word.proofs.Choice.{case-true, case-false}
 use Rattle.devices.specs.declared.Devices.{Devices}
 use Rattle.devices.specs.Devices.{printedAfter, written}

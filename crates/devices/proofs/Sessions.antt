@@ -46,7 +46,7 @@ module _ {A B : Type 0} (R : A → B → Type 0) (at : Attached A) (at′ : Atta
   turn-kept x y p =
       let found = same (x .engine) (y .engine) (p .engine) in
       let begun-alike = subst (λ (c : Devices). R (at .put (begun (at .get (x .engine)) (x .unread)) (x .engine)) (at′ .put c (y .engine)))
-          (sym (ap₂ begun found (p .unread))) (starts (x .engine) (y .engine) (x .unread) (p .engine)) in
+      (sym (ap₂ begun found (p .unread))) (starts (x .engine) (y .engine) (x .unread) (p .engine)) in
       let after = kept _ _ begun-alike in
       record { engine = after; unread = ap₂ unreadAfter found (p .unread); printed = ap₂ printedAfter (same _ _ after) (p .printed) }
 

@@ -102,7 +102,17 @@ fn all_widths() -> [u64; ALL_REGISTERS]
     let a = machine_state::registers::widths();
     let b = devices::registers::widths();
     [
-        a[0], a[1], a[2], a[3], a[4], a[5], b[0], b[1], b[2], b[3], b[4],
+        a[0],
+        a[1],
+        a[2],
+        a[3],
+        a[4],
+        a[5],
+        b[0],
+        b[1],
+        b[2],
+        b[3],
+        b[4],
     ]
 }
 
@@ -111,7 +121,16 @@ fn all_values(m: Machine, c: Devices) -> [u16; ALL_REGISTERS]
     ensures { λ r. ⌜ r ≡ values m ++ deviceValues c ⌝ }
 {
     [
-        m.lac, m.pc, m.run, m.enable, m.request, m.switches, c.key, c.keyboard, c.printer, c.print,
+        m.lac,
+        m.pc,
+        m.run,
+        m.enable,
+        m.request,
+        m.switches,
+        c.key,
+        c.keyboard,
+        c.printer,
+        c.print,
         c.mark,
     ]
 }
@@ -120,9 +139,9 @@ fn all_values(m: Machine, c: Devices) -> [u16; ALL_REGISTERS]
 fn checked_devices(memory: &[u16], m: Machine, c: Devices, budget: u64) -> Verdict
     ensures { λ r. ⌜ r ≡ checkState (widths ++ deviceWidths) (values m ++ deviceValues c) (now (memory .entry)) budget ⌝ }
 {
-    let widths = all_widths();
-    let values = all_values(m, c);
-    state::check_state(memory, &widths, &values, budget)
+    let bits = all_widths();
+    let all = all_values(m, c);
+    state::check_state(memory, &bits, &all, budget)
 }
 
 // The run with devices of a state that no check turns down.

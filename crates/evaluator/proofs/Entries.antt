@@ -1,9 +1,9 @@
 -- The entry's laws: what the reader's tables, the checks and the run over the tables come to, by the definitions.
 -- Assumes nothing.
 use mathlib.Core.Path.{_≡_, refl, sym, ap, ap₂, subst, _∙_}
-use mathlib.Core.Bool.{Bool, true, false}
+use mathlib.Core.Bool.{Bool, true, false, _&&_}
 use mathlib.Core.List.{List, [], _∷_, _++_}
-use Prim.Native.Nat.{ℕ, suc, _*_, _%_, _≤_, _<_}
+use Prim.Native.Nat.{ℕ, suc, _-_, _*_, _%_, _≤_, _<_}
 use native.Mathlib.Nat.{mod-eq-of-lt}
 use native.Mathlib.Omega.{arith}
 use lib.Dec.{eqb, ltb}
@@ -14,7 +14,7 @@ use Rattle.word.specs.Choice.{pick}
 use Rattle.word.specs.Word.{widest, fits}
 use Rattle.state.specs.Limits.{memoryWords, budgetLimit}
 use Rattle.state.specs.Acceptable.{Acceptable, Fitting}
-use Rattle.state.specs.Refusals.{reasonOf, orElse}
+use Rattle.state.specs.Refusals.{reasonWith, orElse}
 use Rattle.state.specs.Refusals as state
 use Rattle.state.specs.Checks.{firstTooWide, checkMemory, checkBudget, checkState, checkRowList}
 use Rattle.state.specs.declared.Reason.{Reason}
@@ -26,7 +26,7 @@ use Rattle.state.proofs.Accepted.{row-list-long, both-fit, state-sound}
 use Rattle.text_limits.specs.Limits.{mostRows, mostRegisters}
 use Rattle.characters.specs.Named.{Named, find}
 use Rattle.text_names.specs.Dictionaries.{entries}
-use Rattle.laws.proofs.Joined.{and-left}
+use Rattle.laws.proofs.Joined.{and-left, and-right}
 use Rattle.laws.proofs.Tests.{by-test}
 use Rattle.text_bit_parts.specs.References.{widthIn}
 use Rattle.text_names.proofs.Entries.{entries-length}
@@ -49,23 +49,38 @@ use Rattle.rows_value.specs.Value.{State}
 use Rattle.rows_value.specs.Fitting as fitting
 use Rattle.rows_value.specs.Words.{codePlaces}
 use Rattle.rows_value.proofs.Widths.{width-of}
+use Rattle.runs.specs.Run as runs
 use Rattle.runs.specs.Run.{Ended}
+use Rattle.devices.specs.Devices.{written}
+use Rattle.devices.specs.Held.{Bytes}
+use Rattle.devices.specs.Session.{Session, opened, Exchange, exchanged, untouched}
 use Rattle.rows_cycles.specs.Cycle.{Cycle}
 use Rattle.rows_cycles.specs.Run.{running, run}
+use Rattle.rows_cycles.specs.Devices.{hasDevices, devicePlaces, runDevices}
 use Rattle.rows_cycles.specs.declared.run.Course as course
-use Rattle.rows_cycles.specs.Stored.{runAt, coursing, Coursed}
-use Rattle.rows_cycles.proofs.TableRuns.{tables-run}
-use Rattle.evaluator.specs.Evaluate.{Report, refused, finished, widthsOf, check, evaluateOf, evaluate, outcomeOf, report}
+use Rattle.rows_cycles.specs.Stored.{runAt, roomFor, coursing, Coursed}
+use Rattle.rows_cycles.proofs.TableRuns.{tables-run, tables-run-devices}
+use Rattle.evaluator.specs.Evaluate.{Report, refused, ended, finished, widthsOf, check, evaluateOf, evaluate, outcomeOf}
+use Rattle.evaluator.specs.Evaluate.{DeviceReport, deviceReport, without, finishedDevices, runOf, evaluateDevicesOf, evaluateDevices}
+use Rattle.evaluator.specs.Lent.{Attaches, finishedLent, evaluateLent}
+use Rattle.evaluator.specs.declared.attached.Places.{Places}
 use Rattle.evaluator.specs.declared.Outcome.the-variants.{Ran}
 use Rattle.evaluator.specs.Padded.{widthAt, padded, checkPadded}
 use Rattle.evaluator.proofs.Padding.{padded-at, padded-past}
 
 -- what a run comes to, by another reading of RUN that is the same at its end
-finished-by : (f g : State → ℕ) (r : Ended Cycle) (list : List ℕ) → f (r .left .state) ≡ g (r .left .state) → finished f r list ≡ finished g r list
-finished-by f g r list e =
-    let last = r .left in
-    ap (λ (n : ℕ). outcomeOf (Ran (reasonOf n) (r .steps) (length (last .acted))) (last .state .registers) (last .state .memory)
-    (last .acted ++ drop (length (last .acted)) list)) e
+finished-by : (devices : Bool) (f g : State → ℕ) (r : Ended (Session Cycle)) (list input output : List ℕ)
+    → f (r .left .engine .state) ≡ g (r .left .engine .state) → finishedLent devices f r list input output ≡ finishedLent devices g r list input output
+finished-by devices f g r list input output e =
+    ap (λ (n : ℕ). record {
+      report = ended (reasonWith n (roomFor devices (length output) (r .left))) (r .steps) (r .left .engine) list;
+      exchange = exchanged input output (r .left);
+    }) e
+
+-- a session in which nothing was read or printed
+exchanged-none : (c : Cycle) (input output : List ℕ) → exchanged input output (opened c input) ≡ untouched output
+unfolding written
+exchanged-none c input output = ap (λ (n : ℕ). record { read = n; printed = 0; output = output }) {x = length input - length input} {y = 0} (omega arith)
 
 -- the checks go by each place's width alone
 too-wide-ext : (f g : ℕ → ℕ) → ((k : ℕ) → f k ≡ g k) → (at : ℕ) (xs : List ℕ) → firstTooWide f at xs ≡ firstTooWide g at xs
@@ -93,6 +108,12 @@ module _ (text : List ℕ) (r : Findings) {code₀ code table₀ table : List �
       → evaluate text registers memory budget list ≡ refused (numberOf f) n registers memory list
   unfolding evaluate evaluateOf
   text-refused registers memory budget list f n e = ap (λ a. evaluateOf a registers memory budget list) (read-is e)
+
+  pub lent-text-refused : (lends : Bool) (registers memory : List ℕ) (budget : ℕ) (list input output : List ℕ) (f : Fault) (n : ℕ) → r .verdict ≡ Refused f n
+      → evaluateLent lends text registers memory budget list input output ≡ without (refused (numberOf f) n registers memory list) output
+  unfolding evaluateDevices evaluateDevicesOf
+  lent-text-refused true registers memory budget list input output f n e = ap (λ a. evaluateDevicesOf a registers memory budget list input output) (read-is e)
+  lent-text-refused false registers memory budget list input output f n e = ap (λ (x : Report). without x output) (text-refused registers memory budget list f n e)
 
   -- a text that is taken
   module _ (told : r .verdict ≡ Accepted) where
@@ -159,9 +180,34 @@ module _ (text : List ℕ) (r : Findings) {code₀ code table₀ table : List �
       unfolding evaluate evaluateOf
       evaluated e = ap (λ a. evaluateOf a registers memory budget list) (read-is told) ∙ ap by-verdict (sym checked ∙ e)
 
-      pub state-refused : (why : Refusal) → found ≡ Unfit why
-          → evaluate text registers memory budget list ≡ refused (state.numberOf why) (state.placeOf why) registers memory list
-      state-refused why e = evaluated e
+      -- input and output, and whether they are lent
+      module _ (input output : List ℕ) where
+        abbrev devices-by-verdict : Verdict → DeviceReport
+        devices-by-verdict Fit = runOf described start budget list input output
+        devices-by-verdict (Unfit why) = without (refused (state.numberOf why) (state.placeOf why) registers memory list) output
+
+        evaluated-devices : {v : Verdict} → found ≡ v → evaluateDevices text registers memory budget list input output ≡ devices-by-verdict v
+        unfolding evaluateDevices evaluateDevicesOf
+        evaluated-devices e =
+            ap (λ a. evaluateDevicesOf a registers memory budget list input output) (read-is told) ∙ ap devices-by-verdict (sym checked ∙ e)
+
+        pub lent-state-refused : (lends : Bool) (why : Refusal) → found ≡ Unfit why
+            → evaluateLent lends text registers memory budget list input output
+            ≡ without (refused (state.numberOf why) (state.placeOf why) registers memory list) output
+        lent-state-refused true why e = evaluated-devices e
+        lent-state-refused false why e = ap (λ (x : Report). without x output) (evaluated e)
+
+        -- with devices, or without
+        abbrev by-devices : Bool → DeviceReport
+        by-devices devices =
+            elim devices [
+              | true ↦ finishedDevices (running described) (runDevices described (length output) budget start input) list input output
+              | false ↦ without (finished (running described) (run described budget start) list) output
+            ]
+
+        lent-fit : (lends : Bool) → found ≡ Fit → evaluateLent lends text registers memory budget list input output ≡ by-devices (lends && hasDevices described)
+        lent-fit true e = evaluated-devices e
+        lent-fit false e = ap (λ (x : Report). without x output) (evaluated e)
 
       -- a state that passes the checks
       module _ (e : found ≡ Fit) where
@@ -180,23 +226,50 @@ module _ (text : List ℕ) (r : Findings) {code₀ code table₀ table : List �
         fits-registers places =
             record { places = places; values = sound .1; words = sound .0 }
 
-        pub run-told : length registers ≡ mostRegisters → length code₀ ≡ codePlaces → length table₀ ≡ rowCells * mostRows
-            → (place : ℕ) → place ≡ find runName (described .registers)
-            → finished (runAt place) (coursing code table (r .rows) place budget start) list ≡ evaluate text registers memory budget list
-        run-told places lc lt place p =
-            ap (λ (x : Ended Cycle). finished (runAt place) x list)
-            (tables-run described formed code₀ table₀ code table (r .rows) place (stored .0) lc lt (stored .1 .0) (stored .1 .1)
-            (run-read place p) budget start (fits-registers places))
-            ∙ finished-by (runAt place) (running described) (run described budget start) list (run-read place p (run described budget start .left .state))
-            ∙ sym (evaluated e)
+        module _ (places : length registers ≡ mostRegisters) (lc : length code₀ ≡ codePlaces) (lt : length table₀ ≡ rowCells * mostRows)
+            (place : ℕ) (p : place ≡ find runName (described .registers)) (input output : List ℕ) (bytes : Bytes input) where
+          abbrev ran : Bool → List ℕ → Ended (Session Cycle)
+          ran devices at = coursing code table (r .rows) place devices at (length output) budget start input
+
+          run-by : (devices : Bool) → (devices ≡ true → hasDevices described ≡ true)
+              → finishedLent devices (runAt place) (ran devices (devicePlaces described)) list input output ≡ by-devices input output devices
+          run-by true h =
+              let last = runDevices described (length output) budget start input .left .engine .state in
+              ap (λ (x : Ended (Session Cycle)). finishedLent true (runAt place) x list input output)
+              (tables-run-devices described formed code₀ table₀ code table (r .rows) place (stored .0) lc lt (stored .1 .0) (stored .1 .1)
+              (run-read place p) (h refl) (length output) budget start input (fits-registers places) bytes)
+              ∙ finished-by true (runAt place) (running described) (runDevices described (length output) budget start input) list input output (run-read place p last)
+          run-by false h =
+              let r₀ = run described budget start in
+              let end : Ended (Session Cycle) = runs.ended (r₀ .steps) (opened (r₀ .left) input) in
+              ap (λ (x : Ended (Session Cycle)). finishedLent false (runAt place) x list input output)
+              (tables-run described formed code₀ table₀ code table (r .rows) place (stored .0) lc lt (stored .1 .0) (stored .1 .1)
+              (run-read place p) (devicePlaces described) (length output) input budget start (fits-registers places))
+              ∙ finished-by false (runAt place) (running described) end list input output (run-read place p (r₀ .left .state))
+              ∙ ap (λ (x : Exchange). record { report = finished (running described) r₀ list; exchange = x }) (exchanged-none (r₀ .left) input output)
+
+          pub run-told : (lends devices : Bool) (found : Places) → Attaches (described .registers) found → devices ≡ lends && found .all
+              → finishedLent devices (runAt place) (ran devices (found .places)) list input output ≡ evaluateLent lends text registers memory budget list input output
+          run-told lends devices found a is =
+              let both : devices ≡ lends && hasDevices described = is ∙ ap (λ (b : Bool). lends && b) (a .all-is) in
+              ap (λ (ps : List ℕ). finishedLent devices (runAt place) (ran devices ps) list input output) (a .places-are)
+              ∙ run-by devices (λ t. and-right lends (hasDevices described) (sym both ∙ t))
+              ∙ ap (by-devices input output) both
+              ∙ sym (lent-fit input output lends e)
 
 -- a run's end and the rows put at the front of a caller's list
-pub finish : (place : ℕ) (x : Ended Cycle) (t : course.Course) (memory list rows rows′ : List ℕ) → Coursed place x t memory list
-    → rows′ ≡ take (t .listed) list ++ drop (t .listed) rows
-    → report (record { registers = t .registers; outcome = Ran (t .reason) (t .steps) (t .listed) }) memory rows′ ≡ finished (runAt place) x rows
-finish place x t memory list rows rows′ k e =
-    let last = x .left in
-    ap (λ (s : State). outcomeOf (Ran (t .reason) (t .steps) (t .listed)) (s .registers) (s .memory) rows′) (k .state-is)
+pub finish : (devices : Bool) (place : ℕ) (input output : List ℕ) (x : Ended (Session Cycle)) (t : course.Course) (memory list after rows rows′ : List ℕ)
+    → Coursed devices place input output x t memory list after → rows′ ≡ take (t .listed) list ++ drop (t .listed) rows
+    → deviceReport
+    (record { answer = record { registers = t .registers; outcome = Ran (t .reason) (t .steps) (t .listed) }; read = t .read; printed = t .printed })
+    memory rows′ after
+    ≡ finishedLent devices (runAt place) x rows input output
+finish devices place input output x t memory list after rows rows′ k e =
+    let last = x .left .engine in
+    let why = reasonWith (runAt place (last .state)) (roomFor devices (length output) (x .left)) in
+    ap₂ (λ (p : Report) (q : Exchange). record { report = p; exchange = q })
+    (ap (λ (s : State). outcomeOf (Ran (t .reason) (t .steps) (t .listed)) (s .registers) (s .memory) rows′) (k .state-is)
     ∙ ap₂ (λ (w : Reason) (n : ℕ). outcomeOf (Ran w n (t .listed)) (last .state .registers) (last .state .memory) rows′) (k .reason-is) (k .steps-are)
-    ∙ ap₂ (λ (n : ℕ) (l : List ℕ). outcomeOf (Ran (reasonOf (runAt place (last .state))) (x .steps) n) (last .state .registers) (last .state .memory) l) (k .count-is)
-    (e ∙ ap₂ (λ (l : List ℕ) (n : ℕ). l ++ drop n rows) (k .list-is) (k .count-is))
+    ∙ ap₂ (λ (n : ℕ) (l : List ℕ). outcomeOf (Ran why (x .steps) n) (last .state .registers) (last .state .memory) l) (k .count-is)
+    (e ∙ ap₂ (λ (l : List ℕ) (n : ℕ). l ++ drop n rows) (k .list-is) (k .count-is)))
+    (k .exchange-is)

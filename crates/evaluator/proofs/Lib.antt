@@ -1,2 +1,3 @@
 mod Padding
 mod Entries
+mod Attaching

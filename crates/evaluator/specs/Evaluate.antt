@@ -17,6 +17,7 @@ use Rattle.text_declaration.specs.Faults.{numberOf}
 use Rattle.text_description.specs.Description as text
 use Rattle.text_description.specs.Description.{accepted, turnedDown, readText}
 use Rattle.evaluator.specs.declared.Answer.{Answer}
+use Rattle.evaluator.specs.declared.DeviceAnswer.{DeviceAnswer}
 use Rattle.evaluator.specs.declared.Outcome.{Outcome}
 use Rattle.evaluator.specs.declared.Outcome.the-variants.{Ran, Unread, Refused}
 use Rattle.runs.specs.Run.{Ended}
@@ -92,6 +93,11 @@ report r memory list = outcomeOf (r .outcome) (r .registers .values) memory list
 pub record DeviceReport : Type 0 where
   pub report : Report
   pub exchange : Exchange
+
+-- the answer, with the memory, the row list and the output that are left
+abbrev pub deviceReport : DeviceAnswer → List ℕ → List ℕ → List ℕ → DeviceReport
+deviceReport r memory list output =
+    record { report = report (r .answer) memory list; exchange = record { read = r .read; printed = r .printed; output = output } }
 
 -- nothing read and nothing printed: after a refusal, and where there are no devices
 abbrev pub without : Report → List ℕ → DeviceReport

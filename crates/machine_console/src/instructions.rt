@@ -22,10 +22,10 @@ pub fn choose_if(flag: bool, a: u64, b: u64) -> u64
     if flag { a } else { b }
 }
 
-fn choose_short(flag: bool, a: u16, b: u16) -> u16
-    ensures { λ r. ⌜ r ≡ pick flag a b ⌝ }
+fn choose_short(flag: bool, x: u16, y: u16) -> u16
+    ensures { λ r. ⌜ r ≡ pick flag x y ⌝ }
 {
-    if flag { a } else { b }
+    if flag { x } else { y }
 }
 
 // INTERRUPT.REQUEST, as the devices' flags have it.

@@ -1,7 +1,7 @@
 // The machine with keyboard and teleprinter: the eight instructions of the two, and a run.
 mod instructions;
-mod work;
 pub mod run;
+mod work;
 
 use devices::Devices;
 use machine_state::Processor;

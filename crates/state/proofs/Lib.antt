@@ -1,3 +1,4 @@
 pub mod Scan
 pub mod Accepted
 pub mod Numbers
+pub mod Reasons

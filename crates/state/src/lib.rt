@@ -44,11 +44,7 @@ pub fn reason_with(run: u64, place: bool) -> Reason
     if run == 0 {
         return Reason::Halted;
     }
-    if place {
-        Reason::Spent
-    } else {
-        Reason::Paper
-    }
+    if place { Reason::Spent } else { Reason::Paper }
 }
 
 // Why a run without devices ended.

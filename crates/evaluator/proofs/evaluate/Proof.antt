@@ -1,96 +1,36 @@
--- `evaluator::evaluate`: the text, the checks, then the run of the rows.
-use mathlib.Core.Path.{refl, sym, _∙_}
-use Rattle.evaluator.proofs.Entries.{text-refused, widths-narrow, state-refused, run-ready, run-told}
+-- `evaluator::evaluate`: the same, with nothing lent.
+use mathlib.Core.Path.{ap}
+use Rattle.evaluator.specs.Evaluate.{DeviceReport}
 use borrow.Author.Needs.{needs}
 use Rattle.evaluator.proofs.evaluate.Statement.{statement}
 use Rattle.evaluator.proofs.evaluate.Tie as tie
 
-read-requires : tie.Need-read-requires
-read-requires c κs = search needs
+slice-aggregate-evaluate-lent : tie.Need-slice-aggregate-evaluate-lent
+slice-aggregate-evaluate-lent c = search needs
 
-enum-known-verdict : tie.Need-enum-known-verdict
-enum-known-verdict c = search needs
+slice-aggregate-evaluate-lent-2 : tie.Need-slice-aggregate-evaluate-lent-2
+slice-aggregate-evaluate-lent-2 c = search needs
 
-enum-told : tie.Need-enum-told
-enum-told c = search needs
-
-check-requires : tie.Need-check-requires
-check-requires c κs =
-    let r = c .before .before .before .before in
-    widths-narrow _ _ (r .read .ensures) (c .before .before .enum-told .given .1)
-
-enum-known-why : tie.Need-enum-known-why
-enum-known-why c = search needs
-
-enum-told-2 : tie.Need-enum-told-2
-enum-told-2 c = search needs
-
-slice-aggregate-place-of : tie.Need-slice-aggregate-place-of
-slice-aggregate-place-of c = search needs
-
-place-of-requires : tie.Need-place-of-requires
-place-of-requires c κs = search needs
-
-run-rows-requires : tie.Need-run-rows-requires
-run-rows-requires c κs =
-    let v = c .before .before .before .before .before .before .before .before in
-    let r = v .before .before .before .before .before in
-    let a = r .before .before .before .before .before .before .args in
-    let told = v .before .before .before .enum-told .given .1 in
-    run-ready _ _ (r .read .ensures) told _ (a .memory .now) (a .budget) (a .rows .now) (v .check .ensures)
-    (c .before .before .before .before .before .before .enum-told2 .given .1)
-
-returns : tie.Need-returns
-returns c =
-    let r = c .before .before .before in
-    let a = r .before .before .before .before .before .before .args in
-    sym (text-refused _ _ (r .read .ensures) (a .registers .values) (a .memory .now) (a .budget) (a .rows .now) _ _ (c .before .verdict .given .1))
+evaluate-lent-requires : tie.Need-evaluate-lent-requires
+evaluate-lent-requires c κs = search needs
 
 same-length : tie.Need-same-length
 same-length c = search needs
 
-returns-2 : tie.Need-returns-2
-returns-2 c =
-    let v = c .before .before .before in
-    let r = v .before .before .before .before .before in
-    let a = r .before .before .before .before .before .before .args in
-    let told = v .before .before .before .enum-told .given .1 in
-    sym (state-refused _ _ (r .read .ensures) told (a .registers .values) (a .memory .now) (a .budget) (a .rows .now) (v .check .ensures) _ (c .before .why .given .1))
-
 same-length-2 : tie.Need-same-length-2
 same-length-2 c = search needs
 
-same-length-3 : tie.Need-same-length-3
-same-length-3 c = search needs
-
-returns-3 : tie.Need-returns-3
-returns-3 c =
-    let p = c .before .before .before .before .before .before .before .before .before in
-    let v = p .before .before .before .before in
-    let r = v .before .before .before .before .before in
-    let b = r .before .before .before .before .before .before in
-    let a = b .args in
-    let told = v .before .before .before .enum-told .given .1 in
-    c .before .before .before .before .run-rows .ensures
-    ∙ run-told _ _ (r .read .ensures) told (a .registers .values) (a .memory .now) (a .budget) (a .rows .now) (v .check .ensures)
-    (p .before .before .enum-told2 .given .1) (let g = b .good .1 .1 .0 in search needs) refl refl _ (p .place-of .ensures)
+returns : tie.Need-returns
+returns c =
+    ap (λ (x : DeviceReport). x .report) (c .before .before .before .before .before .before .evaluate-lent .ensures)
 
 pub evaluate-spec : {M : Type 1} → statement M
 evaluate-spec =
     tie.close
     (tie.spec
-    read-requires
-    enum-known-verdict
-    enum-told
-    check-requires
-    enum-known-why
-    enum-told-2
-    slice-aggregate-place-of
-    place-of-requires
-    run-rows-requires
-    returns
+    slice-aggregate-evaluate-lent
+    slice-aggregate-evaluate-lent-2
+    evaluate-lent-requires
     same-length
-    returns-2
     same-length-2
-    same-length-3
-    returns-3)
+    returns)

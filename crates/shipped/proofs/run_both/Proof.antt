@@ -33,9 +33,9 @@ returns k =
     let a = start .args in
     let sixteen = start .good .1 .1 .1 .0 in
     λ c input left right.
-        together plain (a .m) c (a .registers .values) (a .first .now) (a .second .now) (a .budget) (a .rows .now) input left right _ _ (search needs)
-        (ap (λ (x : Report). record { report = x; devices = c; exchange = untouched left }) (emulated .emulate .ensures))
-        (ap (λ (x : evaluator.Report). without x right) (evaluated .evaluate-shipped .ensures))
+    together plain (a .m) c (a .registers .values) (a .first .now) (a .second .now) (a .budget) (a .rows .now) input left right _ _ (search needs)
+    (ap (λ (x : Report). record { report = x; devices = c; exchange = untouched left }) (emulated .emulate .ensures))
+    (ap (λ (x : evaluator.Report). without x right) (evaluated .evaluate-shipped .ensures))
 
 pub run-both-spec : {M : Type 1} → statement M
 run-both-spec =

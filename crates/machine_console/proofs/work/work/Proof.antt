@@ -45,9 +45,11 @@ device-word-requires c κs =
     let told = flags .before in
     let fetch = told .before in
     let begin = fetch .before .before .before in
-    let s = at (begin .args .p) (now (begin .args .memory)) in
-    (work-resumes s (begin .args .c) (begin .args .steps) (begin .args .budget) _ _ _ _ _ (fetch .load .ensures) (told .makes-test .ensures) (flags .line .ensures)
-    (refresh .choose-if .ensures) (ends .choose-if2 .ensures) _ _ (call .stretch .ensures) (begin .pre .0) (begin .pre .1 .0) (begin .pre .1 .1) (c .before .if1 .taken), begin .pre .1 .0)
+    let s = at (begin .args .p) (now (begin .args .memory)) in (
+      work-resumes s (begin .args .c) (begin .args .steps) (begin .args .budget) _ _ _ _ _ (fetch .load .ensures) (told .makes-test .ensures) (flags .line .ensures)
+          (refresh .choose-if .ensures) (ends .choose-if2 .ensures) _ _ (call .stretch .ensures) (begin .pre .0) (begin .pre .1 .0) (begin .pre .1 .1) (c .before .if1 .taken),
+      begin .pre .1 .0,
+    )
 
 same-length : tie.Need-same-length
 same-length c = search needs

@@ -1,6 +1,6 @@
 -- `rows_cycles::attached::end_cycle`: the print of a byte, with devices.
 use mathlib.Core.Path.{sym, ap, subst, _∙_}
-use Prim.Native.Nat.{ℕ, _%_, _^_, _<_}
+use Prim.Native.Nat.{_^_, _<_}
 use native.Mathlib.Nat.{mod-lt}
 use lib.Pow.{pow-pos}
 use Rattle.devices.specs.declared.Devices.{Devices}

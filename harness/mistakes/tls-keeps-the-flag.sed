@@ -1,0 +1,6 @@
+# TLS leaves the printer flag.
+# areas: devices device-edges device-words
+# file: harness/independent/emulate_devices.rs
+/^            TLS => {/,/^            }/{
+/tcf(/d
+}

@@ -173,16 +173,7 @@ pub fn evaluate(
         ≡ evaluation (now (text .entry)) (registers .values) (now (memory .entry)) budget (now (rows .entry)) ⌝ }
 {
     let mut none = [0u8; 1];
-    let r = evaluate_lent(
-        text,
-        memory,
-        registers,
-        budget,
-        rows,
-        false,
-        &[0; 0],
-        &mut none,
-    );
+    let r = evaluate_lent(text, memory, registers, budget, rows, false, &[], &mut none);
     r.answer
 }
 

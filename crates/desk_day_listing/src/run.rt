@@ -30,7 +30,7 @@ fn put_step(memory: &mut [u16; MEMORY_WORDS], page: &mut [u8; PAGE_BYTES], w: Pr
 {
     let p = w.processor;
     let i = machine_state::memory::load(memory, p.pc);
-    let q = machine_run::step::step(memory, p);
+    let q = machine_run::step::step(memory, p, false);
     let done = w.done + 1;
     let end = put_step_line(page, w.at, done, p.pc, i, q.lac, q.run);
     Progress {

@@ -59,7 +59,7 @@ pub struct Maker {
 impl Maker {
     /// With the two shipped descriptions and the paths of the two programs.
     pub fn new(seed: u64, shipped: Vec<u8>, twin: Vec<u8>, listing: &str, explain: &str) -> Maker {
-        let program = |name, path: &str| Arc::new(Program { name, path: path.to_string(), shipped: shipped.clone() });
+        let program = |name, path: &str| Arc::new(Program { name, path: path.to_string(), shipped: shipped.clone(), twin: twin.clone() });
         let (listing, explain) = (program("listing", listing), program("explain", explain));
         let twin_read = description(&twin).ok();
         Maker { seed, shipped, listing, explain, limits: limits(), edges: edges(), device_edges: device_edges::edges(), twin, twin_read }

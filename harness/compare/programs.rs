@@ -9,8 +9,9 @@ pub struct Program {
     /// Its name, which is its area's.
     pub name: &'static str,
     pub path: String,
-    /// The shipped description, whose lines explain prints.
+    /// The shipped descriptions, whose lines explain prints.
     pub shipped: Vec<u8>,
+    pub twin: Vec<u8>,
 }
 
 impl Program {
@@ -22,7 +23,7 @@ impl Program {
     fn own(&self, input: &[u8]) -> String {
         match self.name {
             "listing" => independent::listing(input),
-            _ => independent::explain(input, &self.shipped),
+            _ => independent::explain(input, &self.shipped, &self.twin),
         }
     }
 

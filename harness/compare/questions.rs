@@ -2,6 +2,7 @@
 
 use crate::images;
 use crate::random::Random;
+use independent::devices::DEVICE_REGISTERS;
 
 /// Lines that are no line of an image, or break the one that they are put into.
 const UNFIT_WORDS: [&[u8]; 15] = [
@@ -9,13 +10,15 @@ const UNFIT_WORDS: [&[u8]; 15] = [
     b"02000\t7300\n", b"\0", b"0209\t7300\n", b" 0200\t7300\n", b"0200\t7300\n0", b"0200\t7300\t0001\n",
 ];
 /// Lines that are none of a question, lines that explain prints among them.
-const UNFIT_LINES: [&[u8]; 40] = [
+const UNFIT_LINES: [&[u8]; 55] = [
     b"LAC\t20000\n", b"LAC\t7777\n", b"LAC\t000000\n", b"LAC\t0000 \n", b"LAC 00000\n", b"LAC\t\n", b"LAC\n", b"lac\t00000\n", b"LAC\t00008\n",
     b"PC\t00200\n", b"PC\t200\n", b"PC\t0200\t0\n", b"RUN\t2\n", b"RUN\t01\n", b"RUN\t\t1\n", b"INTERRUPT.ENABLE\t2\n", b"INTERRUPT.ENABLE\t7\n",
     b"INTERRUPT.REQUEST\t8\n", b"INTERRUPT.REQUEST\t000001\n", b"INTERRUPT.REQUEST\t0000001\n", b"SWITCHES\t777\n", b"SWITCHES\t10000\n",
     b"budget\t1000001\n", b"budget\t9999999\n", b"budget\t00000016\n", b"budget\t\n", b"budget\n", b"budget\t-1\n", b"budget\t1f\n", b"budget\t 1\n",
     b"Budget\t16\n", b"budget\t16\t\n", b"end\t4\thalted\n", b"last\t0203\t7402\tHLT\n", b"word\t0250\t0000\t1234\n", b"i\t7402\n", b"last.pc\t0203\n",
-    b"skip\t0\n", b"at\topr\t35\n", b"1\tdo\t1\ti\tM[PC]\n",
+    b"skip\t0\n", b"at\topr\t35\n", b"1\tdo\t1\ti\tM[PC]\n", b"KEY.BYTE\t400\n", b"KEY.BYTE\t0000\n", b"KEYBOARD.FLAG\t2\n", b"PRINTER.FLAG\t01\n",
+    b"PRINT.BYTE\t77\n", b"PRINT.MARK\t\n", b"PRINT.MARKS\t0\n", b"input\t\n", b"input\n", b"input\t400\n", b"input\t101 \n", b"input\t101  102\n", b"input\t 101\n",
+    b"input\t101,102\n", b"read\t0\n",
 ];
 
 /// How many unfit lines there are.
@@ -33,6 +36,11 @@ fn code(random: &mut Random, from: u16, lines: usize) -> Vec<String> {
             word(address, images::instruction(random))
         })
         .collect()
+}
+
+/// Words of the devices soon after `from`.
+fn device_code(random: &mut Random, from: u16) -> Vec<String> {
+    (0..random.below(12)).map(|n| word((from + n as u16) & 0o7777, *random.pick(&[0o6031, 0o6032, 0o6034, 0o6036, 0o6041, 0o6042, 0o6044, 0o6046]))).collect()
 }
 
 /// An instruction soon after `from` that rewrites itself or the next one: what is shown and executed is the word that is there when it is fetched.
@@ -66,6 +74,25 @@ fn registers(random: &mut Random, values: [u16; 6]) -> Vec<String> {
     lines
 }
 
+/// Lines of the devices: registers, and the input, which may be given twice.
+fn devices(random: &mut Random) -> Vec<String> {
+    let mut lines = Vec::new();
+    for (name, width) in DEVICE_REGISTERS {
+        if random.once_in(3) {
+            lines.push(format!("{}\t{:0digits$o}\n", String::from_utf8_lossy(name), random.bits(width), digits = (usize::from(width) + 2) / 3));
+        }
+    }
+    for _ in 0..random.below(3) {
+        let count = *random.pick(&[1, 1, 2, 5, 64]);
+        let bytes: Vec<String> = (0..count).map(|_| format!("{:03o}", random.bits(8))).collect();
+        lines.push(format!("input\t{}\n", bytes.join(" ")));
+    }
+    if random.once_in(16) {
+        lines.push(format!("input\t{}\n", vec!["101"; 65].join(" ")));
+    }
+    lines
+}
+
 fn budget(random: &mut Random) -> String {
     let steps = match random.below(1000) {
         0 => 1_000_000,
@@ -93,6 +120,9 @@ pub fn one_word(random: &mut Random, i: u16) -> Vec<u8> {
     let pointer = if random.once_in(4) { 0o7777 } else { random.bits(12) };
     let mut lines = vec![word((pointer + 1) & 0o7777, random.bits(12)), word(pointer, random.bits(12)), word(first, pointer), word(pc, i)];
     lines.extend(registers(random, state.registers));
+    if i >> 9 == 6 || random.once_in(8) {
+        lines.extend(devices(random));
+    }
     lines.push("budget\t1\n".to_string());
     lines.concat().into_bytes()
 }
@@ -121,6 +151,10 @@ fn lines_of_question(random: &mut Random) -> Vec<String> {
     }
     for _ in 0..random.below(3) {
         lines.push(budget(random));
+    }
+    if random.once_in(3) {
+        lines.extend(device_code(random, from));
+        lines.extend(devices(random));
     }
     if random.once_in(2) {
         let turned = random.below(lines.len() + 1);

@@ -1,22 +1,32 @@
-//! The desk's program: from the bytes of a question, and the shipped description, to the bytes printed.
+//! The desk's program: from the bytes of a question, and the shipped descriptions, to the bytes printed.
 
 use crate::description::{description, Description};
-use crate::emulate;
-use crate::evaluate;
+use crate::devices::DEVICE_REGISTERS;
+use crate::emulate::emulate;
+use crate::emulate_devices::{emulate_devices, widths};
+use crate::evaluate::evaluate;
+use crate::evaluate_devices::evaluate_devices;
 use crate::lines::lines;
 use crate::listing::{image_line, octal};
-use crate::machine::{word_at, Machine, Memory, WIDTHS, WORDS};
+use crate::machine::{word_at, Memory, WORDS};
 use crate::mnemonic::mnemonic;
-use crate::state::{BUDGET, HALTED};
-use crate::watch::Unwatched;
+use crate::state::{BUDGET, ROW_PLACES};
 
 const NAMES: [&str; 6] = ["LAC", "PC", "RUN", "INTERRUPT.ENABLE", "INTERRUPT.REQUEST", "SWITCHES"];
 
-/// What the lines of a question give: a machine's state, and a budget.
+/// The most bytes of an input, and the places of the paper.
+const BYTES: usize = 64;
+
+const REASONS: [&str; 4] = ["", "halted", "spent", "paper"];
+
+/// What the lines of a question give: a machine's state, the devices' if there are any, and a budget.
 #[derive(Clone)]
 struct Question {
     memory: Memory,
     registers: [u16; 6],
+    devices: [u16; 5],
+    with_devices: bool,
+    input: Vec<u8>,
     budget: u64,
 }
 
@@ -25,6 +35,7 @@ enum Said {
     Word(u16, u16),
     Register(usize, u16),
     Budget(u64),
+    Input(Vec<u8>),
 }
 
 /// A digit for every three bits begun.
@@ -42,12 +53,25 @@ fn said(line: &[u8]) -> Option<Said> {
     if name == b"budget" {
         return budget(value).map(Said::Budget);
     }
-    let place = NAMES.iter().position(|known| known.as_bytes() == name)?;
-    if value.len() != digits(WIDTHS[place]) {
+    if name == b"input" {
+        return bytes(value).map(Said::Input);
+    }
+    let place = NAMES.iter().map(|known| known.as_bytes()).chain(DEVICE_REGISTERS.iter().map(|(known, _)| *known)).position(|known| known == name)?;
+    let width = widths()[place];
+    if value.len() != digits(width) {
         return None;
     }
     let value = octal(value)?;
-    if value >> WIDTHS[place] == 0 { Some(Said::Register(place, value)) } else { None }
+    if value >> width == 0 { Some(Said::Register(place, value)) } else { None }
+}
+
+/// 1 to 64 bytes of three octal digits each, parted by one space.
+fn bytes(text: &[u8]) -> Option<Vec<u8>> {
+    let parts: Vec<&[u8]> = text.split(|byte| *byte == b' ').collect();
+    if parts.len() > BYTES {
+        return None;
+    }
+    parts.into_iter().map(|part| if part.len() == 3 { octal(part).and_then(|value| u8::try_from(value).ok()) } else { None }).collect()
 }
 
 /// 1 to 7 decimal digits, at most 1,000,000.
@@ -59,36 +83,81 @@ fn budget(digits: &[u8]) -> Option<u64> {
     if value <= BUDGET { Some(value) } else { None }
 }
 
-/// The question, or the number of its first unfit line.
+/// The question, or the number of its first unfit line. A line for a device makes the run one with devices.
 fn question(input: &[u8]) -> Result<Question, usize> {
-    let mut question = Question { memory: [0; WORDS], registers: [0, 0o200, 1, 0, 0, 0], budget: 16 };
+    let mut question =
+        Question { memory: [0; WORDS], registers: [0, 0o200, 1, 0, 0, 0], devices: [0; 5], with_devices: false, input: Vec::new(), budget: 16 };
     for line in lines(input) {
         match line.bytes.and_then(said).ok_or(line.number)? {
             Said::Word(address, word) => question.memory[address as usize] = word,
-            Said::Register(place, value) => question.registers[place] = value,
+            Said::Register(place, value) if place < 6 => question.registers[place] = value,
+            Said::Register(place, value) => {
+                question.devices[place - 6] = value;
+                question.with_devices = true;
+            }
             Said::Budget(budget) => question.budget = budget,
+            Said::Input(bytes) => {
+                question.input = bytes;
+                question.with_devices = true;
+            }
         }
     }
     Ok(question)
 }
 
-/// The machine after so many steps: memory, registers, and the steps done with the reason.
-fn after(question: &Question, budget: u64) -> (Memory, Machine, (u64, u64)) {
-    let mut memory = question.memory;
-    let mut machine = Machine::from_array(question.registers);
-    let end = emulate::run(&mut memory, &mut machine, budget, &mut Unwatched);
-    (memory, machine, end)
+/// What a run leaves: memory, the machine's registers, the devices', steps, reason, bytes that arrived, and what was printed.
+struct Run {
+    memory: Memory,
+    registers: [u16; 6],
+    devices: [u16; 5],
+    steps: u64,
+    reason: u64,
+    read: u64,
+    printed: Vec<u8>,
+}
+
+/// The machine after so many steps.
+fn after(question: &Question, budget: u64) -> Run {
+    let Question { mut memory, mut registers, mut devices, .. } = question.clone();
+    let mut paper = [0; BYTES];
+    let [_, steps, reason, _, read, printed] = if question.with_devices {
+        emulate_devices(&mut memory, &mut registers, &mut devices, budget, &question.input, &mut paper)
+    } else {
+        let [refusal, steps, reason] = emulate(&mut memory, &mut registers, budget);
+        [refusal, steps, reason, 0, 0, 0]
+    };
+    Run { memory, registers, devices, steps, reason, read, printed: paper[..printed as usize].to_vec() }
+}
+
+/// The rows of the description that acted in the last cycle, and the register values that the run leaves.
+fn by_rows(question: &Question, text: &[u8]) -> (Vec<u8>, [u16; 16]) {
+    let (mut memory, mut values, mut rows) = (question.memory, [0; 16], [0; ROW_PLACES]);
+    values[..6].copy_from_slice(&question.registers);
+    let listed = if question.with_devices {
+        values[6..11].copy_from_slice(&question.devices);
+        evaluate_devices(text, &mut memory, &mut values, question.budget, &mut rows, &question.input, &mut [0; BYTES])[3]
+    } else {
+        evaluate(text, &mut memory, &mut values, question.budget, &mut rows)[3]
+    };
+    (rows[..listed as usize].to_vec(), values)
 }
 
 /// The last step's instruction, and the words that the step changed.
-fn last_step(question: &Question, steps: u64, memory: &Memory) -> String {
-    let (before, machine, _) = after(question, steps - 1);
-    let i = word_at(&before, machine.pc);
-    let mut page = format!("last\t{:04o}\t{:04o}\t{}\n", machine.pc, i, mnemonic(machine.pc, i));
-    for (address, (old, new)) in before.iter().zip(memory).enumerate().filter(|(_, (old, new))| old != new) {
+fn last_step(question: &Question, run: &Run) -> String {
+    let before = after(question, run.steps - 1);
+    let pc = before.registers[1];
+    let i = word_at(&before.memory, pc);
+    let mut page = format!("last\t{:04o}\t{:04o}\t{}\n", pc, i, mnemonic(pc, i, question.with_devices));
+    for (address, (old, new)) in before.memory.iter().zip(&run.memory).enumerate().filter(|(_, (old, new))| old != new) {
         page += &format!("word\t{:04o}\t{:04o}\t{:04o}\n", address, old, new);
     }
     page
+}
+
+/// What was read and printed.
+fn exchange(run: &Run) -> String {
+    let printed: Vec<String> = run.printed.iter().map(|byte| format!("{:03o}", byte)).collect();
+    format!("read\t{}\nprinted\t{}\n", run.read, printed.join(" "))
 }
 
 /// The description's registers: the machine's first, then its working registers.
@@ -118,21 +187,26 @@ fn rows(text: &str, acted: &[u8]) -> String {
     page
 }
 
-/// What is printed for a question, by the emulator and by the rows of the shipped description.
-pub fn explain(input: &[u8], shipped: &[u8]) -> String {
+/// What is printed for a question, by the emulator and by the rows of the shipped description, of its twin where there are devices.
+pub fn explain(input: &[u8], shipped: &[u8], twin: &[u8]) -> String {
     let question = match question(input) {
         Err(number) => return format!("refused\t{}\n", number),
         Ok(question) => question,
     };
-    let (memory, machine, (steps, reason)) = after(&question, question.budget);
-    let read = description(shipped).expect("the shipped description is accepted");
-    let mut values = [0; 16];
-    values[..6].copy_from_slice(&question.registers);
-    let (_, _, acted) = evaluate::run(&read, &mut question.memory.clone(), &mut values, question.budget);
-    values[..6].copy_from_slice(&machine.to_array());
-    let mut page = format!("end\t{}\t{}\n", steps, if reason == HALTED { "halted" } else { "spent" });
-    if steps > 0 {
-        page += &last_step(&question, steps, &memory);
+    let text = if question.with_devices { twin } else { shipped };
+    let read = description(text).expect("a shipped description is accepted");
+    let run = after(&question, question.budget);
+    let (acted, mut values) = by_rows(&question, text);
+    values[..6].copy_from_slice(&run.registers);
+    if question.with_devices {
+        values[6..11].copy_from_slice(&run.devices);
     }
-    page + &registers(&read, &values) + &rows(&String::from_utf8_lossy(shipped), &acted)
+    let mut page = format!("end\t{}\t{}\n", run.steps, REASONS[run.reason as usize]);
+    if question.with_devices {
+        page += &exchange(&run);
+    }
+    if run.steps > 0 {
+        page += &last_step(&question, &run);
+    }
+    page + &registers(&read, &values) + &rows(&String::from_utf8_lossy(text), &acted)
 }

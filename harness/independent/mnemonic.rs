@@ -5,8 +5,15 @@ use crate::operate::bit;
 
 const REFERENCES: [&str; 6] = ["AND", "TAD", "ISZ", "DCA", "JMS", "JMP"];
 
-/// The instruction `i`, fetched at `pc`.
-pub fn mnemonic(pc: u16, i: u16) -> String {
+/// The words of keyboard and teleprinter.
+const DEVICES: [(u16, &str); 8] =
+    [(0o6031, "KSF"), (0o6032, "KCC"), (0o6034, "KRS"), (0o6036, "KRB"), (0o6041, "TSF"), (0o6042, "TCF"), (0o6044, "TPC"), (0o6046, "TLS")];
+
+/// The instruction `i`, fetched at `pc`; the devices' words have names where there are devices.
+pub fn mnemonic(pc: u16, i: u16, devices: bool) -> String {
+    if let Some((_, name)) = DEVICES.iter().find(|(word, _)| devices && *word == i) {
+        return name.to_string();
+    }
     match i >> 9 {
         6 if i == 0o6001 => "ION".to_string(),
         6 if i == 0o6002 => "IOF".to_string(),

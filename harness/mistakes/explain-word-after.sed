@@ -1,4 +1,4 @@
 # The last instruction's word is the one there after the step.
 # areas: explain
 # file: harness/independent/explain.rs
-s/let i = word_at(&before, machine.pc);/let i = word_at(memory, machine.pc);/
+s/let i = word_at(&before.memory, pc);/let i = word_at(\&run.memory, pc);/

@@ -34,11 +34,11 @@ begin-cycle-requires c κs =
 
 limit-of-requires : tie.Need-limit-of-requires Inv-loop μ-loop
 limit-of-requires c κs =
-    c .before .before .before .before .before .loop-test .taken
+    c .before .before .before .before .before .before .loop-test .taken
 
 stretch-requires : tie.Need-stretch-requires Inv-loop μ-loop
 stretch-requires c κs =
-    let t = c .before .before .before .before .before .before .before .before in
+    let t = c .before .before .before .before .before .before .before .before .before in
     let at = t .before in
     let b = at .before .before .before .before in
     let p = b .pre in
@@ -46,7 +46,7 @@ stretch-requires c κs =
 
 end-cycle-requires : tie.Need-end-cycle-requires Inv-loop μ-loop
 end-cycle-requires c κs =
-    let i = c .before .before .before .before .before .before .before .before .before .before in
+    let i = c .before .before .before .before .before .before .before .before .before .before .before in
     let v = i .before .before in
     room-here _ _ _ _ _ _ _ _ _ _ _ _ _ _ _ _ _ (v .before .before .before .loop .inv) (v .value-at .result) (i .before .has-room .result)
     (v .value-at .ensures) (i .before .has-room .ensures) (i .if1 .left)
@@ -54,13 +54,13 @@ end-cycle-requires c κs =
 loop-less : tie.Need-loop-less Inv-loop μ-loop
 loop-less c =
     let t = c .before .before .before .before .before .before .before .before in
-    omega (arith, t .stretch .ensures .more, t .before .before .before .before .before .before .before .before .before .loop-test .taken)
+    omega (arith, t .stretch .ensures .more, t .before .before .before .before .before .before .before .before .before .before .loop-test .taken)
 
 loop-again : tie.Need-loop-again Inv-loop μ-loop
 loop-again c =
     let e = c .before .before in
     let r = e .before .before .before .before .before .before in
-    let b = r .before .before .before .before in
+    let b = r .before .before .before .before .before in
     let v = b .before .before .before in
     let t = v .before .before in
     going-next _ _ _ _ _ _ _ _ _ _ _ _ _ _ _ _ _ (t .before .loop .inv) (v .value-at .result) (b .before .before .has-room .result)

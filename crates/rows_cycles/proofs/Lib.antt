@@ -3,5 +3,6 @@ pub mod Tables
 pub mod TableRuns
 pub mod Fitting
 mod Turns
+mod Stretches
 mod Courses
 mod Begins

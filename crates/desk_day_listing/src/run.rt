@@ -64,5 +64,5 @@ pub fn put_run(memory: &mut [u16; MEMORY_WORDS], page: &mut [u8; PAGE_BYTES]) ->
         }
         w = put_step(memory, page, w);
     }
-    put_end_line(page, w.at, w.done, w.processor.run)
+    put_end_line(page, w.at, w.done, w.processor.run, true)
 }

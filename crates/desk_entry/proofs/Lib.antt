@@ -1,3 +1,4 @@
 pub mod ByKind
 pub mod Short
+pub mod Octets
 pub mod Examples

@@ -8,8 +8,9 @@ use native.Mathlib.Omega.{arith}
 use lib.Dec.{leb}
 use lib.ListN.{length, getD}
 use borrow.Author.Tests.{leb-true}
-use Rattle.machine_state.specs.Registers.{machineRegisters, widths, digitsOf}
-use Rattle.machine_state.proofs.Places.{width-le}
+use Rattle.machine_state.specs.Registers.{digitsOf}
+use Rattle.desk_registers.specs.Registers.{deskRegisters, deskWidths}
+use Rattle.desk_registers.proofs.Widths.{width-le}
 use Rattle.characters.specs.Ascii.{ascii}
 use Rattle.characters.specs.Characters.{same}
 use Rattle.text_fields.specs.Fields.{field}
@@ -21,7 +22,7 @@ use Rattle.laws.proofs.Tests.{by-test}
 use Rattle.desk_entry.specs.Lines.{entry, isFit}
 use Rattle.desk_entry.specs.Sizes.{lineBytes}
 use Rattle.desk_entry.specs.declared.Entry.{Entry}
-use Rattle.desk_entry.specs.declared.Entry.the-variants.{Word, Register, Budget, Unfit}
+use Rattle.desk_entry.specs.declared.Entry.the-variants.{Word, Register, Budget, Input, Unfit}
 use Rattle.desk_image.proofs.Digits.{digits-size}
 use Rattle.desk_image.proofs.WordLine.{two-fields}
 use Rattle.desk_entry.proofs.ByKind.{by-entry}
@@ -31,12 +32,14 @@ abbrev Within : ℕ → ℕ → Entry → Type 0
 Within n m (Word address word) = n ≤ m
 Within n m (Register place value) = n ≤ m
 Within n m (Budget steps) = n ≤ m
+Within n m (Input bytes) = n ≤ m
 Within n m Unfit = Unit {0}
 
 beyond : (n m : ℕ) (e : Entry) → Within n m e → m < n → isFit e ≡ false
 beyond n m (Word address word) w h = absurd (omega arith)
 beyond n m (Register place value) w h = absurd (omega arith)
 beyond n m (Budget steps) w h = absurd (omega arith)
+beyond n m (Input bytes) w h = absurd (omega arith)
 beyond n m Unfit w h = refl
 
 -- whether no name of a table has more than n bytes
@@ -55,12 +58,12 @@ found-within n name (e ∷ table) all h =
     let later : find name (e ∷ table) ≡ suc (find name table) = rw (t, find) in
     found-within n name table (and-right (leb (length (e .name)) n) (allWithin n table) all) (omega arith))
 
--- no register's name has more than 17 bytes (INTERRUPT.REQUEST), and no value beside it more than 6
+-- no register's name has more than 17 bytes (INTERRUPT.REQUEST), and no value beside it more than 6; 64 bytes have 255 with the spaces between them
 entry-within : (line : List ℕ) → Within (length line) lineBytes (entry line)
 entry-within line =
     let name = field 0 line in
     let value = field 1 line in
-    let place = find name machineRegisters in
+    let place = find name deskRegisters in
     by-entry (Within (length line) lineBytes) tt line (λ t.
     let size = two-fields line t in
     record {
@@ -68,11 +71,12 @@ entry-within line =
       register = λ h d f. omega (
         arith,
         size,
-        found-within 17 name machineRegisters refl h,
+        found-within 17 name deskRegisters refl h,
         width-le place,
-        digits-size Octal (digitsOf (getD widths place 0)) value d,
+        digits-size Octal (digitsOf (getD deskWidths place 0)) value d,
       );
       budget = λ h few small. omega (arith, size, few, ap length (equal name (ascii "budget") h));
+      input = λ h bytes. omega (arith, size, bytes .whole, bytes .few, ap length (equal name (ascii "input") h));
     })
 
 -- the scanner need not keep more of a line

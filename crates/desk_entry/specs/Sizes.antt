@@ -3,4 +3,4 @@
 use Prim.Native.Nat.{ℕ}
 
 abbrev pub lineBytes : ℕ
-lineBytes = 24
+lineBytes = 261

@@ -8,7 +8,7 @@ use Prim.Native.Nat.{ℕ, suc, _<_}
 use native.Mathlib.Omega.{arith}
 use Rattle.laws.proofs.Joined.{and-both}
 use Rattle.laws.proofs.Tests.{by-test}
-use Rattle.text_fields.specs.Fields.{Line, lines}
+use Rattle.text_fields.specs.Fields.{Line, lines, field}
 use Rattle.desk_image.specs.Input.{isWordLine, stored, afterLines, loaded, firstUnfit}
 use Rattle.desk_entry.specs.Lines.{isFit}
 use Rattle.desk_entry.specs.declared.Entry.{Entry}
@@ -17,7 +17,7 @@ use Rattle.desk_inquiry.proofs.WordLine.{says-word}
 
 -- with another memory
 abbrev holding : List ℕ → Inquiry → Inquiry
-holding memory q = record { registers = q .registers; budget = q .budget; memory = memory }
+holding memory q = record { registers = q .registers; budget = q .budget; memory = memory; input = q .input; devices = q .devices }
 
 -- one line
 module _ (line : List ℕ) (q : Inquiry) (t : isWordLine line ≡ true) where
@@ -26,7 +26,7 @@ module _ (line : List ℕ) (q : Inquiry) (t : isWordLine line ≡ true) where
 
   asks-line : enteredLine line q ≡ holding (stored line (q .memory)) q
   unfolding entered stored
-  asks-line = ap (λ (e : Entry). entered e q) (says-word line t)
+  asks-line = ap (λ (e : Entry). entered e (field 1 line) q) (says-word line t)
 
 -- all lines
 record AsListed (n : ℕ) (ls : List Line) (q : Inquiry) : Type 0 where

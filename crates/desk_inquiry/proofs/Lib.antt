@@ -1,3 +1,4 @@
+pub mod Bears
 pub mod Sound
 pub mod WordLine
 pub mod Images

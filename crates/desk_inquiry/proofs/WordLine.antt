@@ -1,4 +1,4 @@
--- The form of a word's line is one for both programs, so that an inquiry reads a line that is fit for an image as that word: no register's name, nor `budget`,
+-- The form of a word's line is one for both programs, so that an inquiry reads a line that is fit for an image as that word: neither a register's name nor `budget` nor `input`
 -- is four octal digits. And no fit line is empty, nor longer than the scanner's buffer.
 -- Assumes nothing.
 use mathlib.Core.Path.{_≡_, refl, ap, _∙_}
@@ -21,7 +21,7 @@ use Rattle.text_fields.specs.Fields.{field, hasFields}
 use Rattle.desk_image.specs.Input.{isOctalWord, octalWord, isWordLine}
 use Rattle.desk_image.proofs.WordLine.{word-line}
 use Rattle.desk_image.proofs.ByLines.{Bounded}
-use Rattle.machine_state.specs.Registers.{machineRegisters}
+use Rattle.desk_registers.specs.Registers.{deskRegisters}
 use Rattle.desk_entry.specs.Lines.{wordEntry, said, entry}
 use Rattle.desk_entry.specs.declared.Entry.the-variants.{Word}
 use Rattle.desk_entry.proofs.Short.{long-unfit}
@@ -64,14 +64,20 @@ no-budget s h =
     (λ t. let first : getD s 0 0 ≡ 98 = ap (λ (x : List ℕ). getD x 0 0) (equal s (ascii "budget") t) in absurd (omega arith))
     (λ t. t)
 
+no-input : (s : List ℕ) → getD s 0 0 ≤ digit 7 → same s (ascii "input") ≡ false
+no-input s h =
+    by-test (same s (ascii "input"))
+    (λ t. let first : getD s 0 0 ≡ 105 = ap (λ (x : List ℕ). getD x 0 0) (equal s (ascii "input") t) in absurd (omega arith))
+    (λ t. t)
+
 -- ---- the line
 
 no-other : (name value : List ℕ) → getD name 0 0 ≤ digit 7 → said name value ≡ wordEntry name value
 unfolding said
 no-other name value h =
-    let none : ltb (find name machineRegisters) (length machineRegisters) ≡ false =
-    ap (λ (n : ℕ). ltb n (length machineRegisters)) (none-found name machineRegisters h refl) in
-    rw (no-budget name h, none, said)
+    let none : ltb (find name deskRegisters) (length deskRegisters) ≡ false =
+    ap (λ (n : ℕ). ltb n (length deskRegisters)) (none-found name deskRegisters h refl) in
+    rw (no-budget name h, no-input name h, none, said)
 
 pub says-word : (line : List ℕ) → isWordLine line ≡ true → entry line ≡ Word (octalWord (field 0 line)) (octalWord (field 1 line))
 unfolding entry wordEntry

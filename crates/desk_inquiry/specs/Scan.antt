@@ -5,7 +5,9 @@ use mathlib.Core.List.{List}
 use lib.ListN.{take}
 use Rattle.desk_image.specs.Scan.{Reading, Scan}
 use Rattle.desk_entry.specs.Sizes.{lineBytes}
+use Rattle.desk_entry.specs.Octets.{Bytes}
 use Rattle.desk_entry.specs.declared.Entry.{Entry}
+use Rattle.desk_entry.specs.declared.Entry.the-variants.{Word, Register, Budget, Input, Unfit}
 use Rattle.desk_inquiry.specs.Input.{Inquiry, ready, entered, isFitLine, enteredLine}
 use Rattle.desk_inquiry.specs.declared.Scanner.{Scanner}
 use Prim.Native.Nat.{ℕ}
@@ -20,9 +22,18 @@ kept s memory =
       line = s .line;
       part = take (s .size) (s .bytes);
       refused = s .refused;
-      made = record { registers = s .registers; budget = s .budget; memory = memory };
+      made =
+          record { registers = s .registers; budget = s .budget; memory = memory; input = take (s .typed) (s .input); devices = s .devices };
     }
 
--- with what a line says entered
-abbrev pub entering : Entry → Scan Inquiry → Scan Inquiry
-entering e s = record { line = s .line; part = s .part; refused = s .refused; made = entered e (s .made) }
+-- what is known of the second field of a line that says e
+abbrev pub Bears : Entry → List ℕ → Type 0
+Bears (Word address word) value = Unit {0}
+Bears (Register place v) value = Unit {0}
+Bears (Budget steps) value = Unit {0}
+Bears (Input n) value = Bytes value n
+Bears Unfit value = Unit {0}
+
+-- with what a line says entered, its second field being `value`
+abbrev pub entering : Entry → List ℕ → Scan Inquiry → Scan Inquiry
+entering e value s = record { line = s .line; part = s .part; refused = s .refused; made = entered e value (s .made) }

@@ -1,8 +1,9 @@
-// What a run is asked for, read byte by byte: lines of an image, machine registers and a budget.
+// What a run is asked for, read byte by byte: lines of an image, registers, a budget and the input.
 use characters::LINE_FEED;
 use desk_entry::Entry;
+use desk_entry::INPUT_BYTES;
 use desk_entry::LINE_BYTES;
-use machine_state::Machine;
+use desk_registers::DESK_REGISTERS;
 use machine_state::registers::MACHINE_REGISTERS;
 use state::MEMORY_WORDS;
 ghost use mathlib.Core.Path.{_≡_};
@@ -13,16 +14,20 @@ ghost use Rattle.desk_image.specs.Pass.{Passed};
 ghost use Rattle.desk_image.specs.Read.{AfterRead};
 ghost use Rattle.desk_image.specs.Scan.{refusing, atNextLine, ended, scanByte, begun, scanOf, unfitLine};
 ghost use Rattle.desk_entry.specs.Lines.{isFit};
-ghost use Rattle.desk_inquiry.specs.Scan.{asking, kept, entering};
+ghost use Rattle.desk_inquiry.specs.Scan.{asking, kept, Bears, entering};
+ghost use Rattle.desk_entry.specs.declared.Entry.the-variants.{Register};
 
-// The place in the input: the line's number from 1 and the bytes read of it; the machine registers and the budget so far; and the
-// first line that was refused, or 0.
+// The place in the text: the line's number from 1 and the bytes read of it; the registers, the budget, the input's bytes, so many at the front of their
+// places, and whether there are devices, so far; and the first line that was refused, or 0.
 pub struct Scanner {
     pub line: u64,
     pub size: usize,
     pub bytes: [u8; LINE_BYTES],
-    pub registers: [u16; MACHINE_REGISTERS],
+    pub registers: [u16; DESK_REGISTERS],
     pub budget: u64,
+    pub input: [u8; INPUT_BYTES],
+    pub typed: usize,
+    pub devices: bool,
     pub refused: u64,
 }
 
@@ -41,6 +46,7 @@ fn is_fit(e: Entry) -> bool
         Entry::Word(_, _) => true,
         Entry::Register(_, _) => true,
         Entry::Budget(_) => true,
+        Entry::Input(_) => true,
         Entry::Unfit => false,
     }
 }
@@ -73,22 +79,40 @@ fn load(memory: &mut [u16], address: usize, word: u16)
     }
 }
 
-// What a line says, entered. A place past the last is none.
-fn entered(memory: &mut [u16; MEMORY_WORDS], s: Scanner, e: Entry) -> Scanner
-    ensures { λ r. ⌜ kept r (now (memory .exit)) ≡ entering e (kept s (now (memory .entry))) ⌝ }
+// With a register's value, which one of the devices' comes with devices. A place past the last is none.
+fn with_register(s: Scanner, place: usize, v: u16) -> Scanner
+    ensures { λ r. ⌜ ((memory value : List ℕ) → kept r memory ≡ entering (Register place v) value (kept s memory)) ⌝ }
+{
+    let mut next = s;
+    next.devices = (MACHINE_REGISTERS <= place) | s.devices;
+    if place < DESK_REGISTERS {
+        next.registers[place] = v;
+        return next;
+    }
+    next
+}
+
+// What a line says, entered; the bytes of the input stand in its second field. A place past the last is none.
+fn entered(memory: &mut [u16; MEMORY_WORDS], s: Scanner, e: Entry, value: &[u8]) -> Scanner
+    requires { ⌜ Bears e (now value) ⌝ }
+    ensures { λ r. ⌜ kept r (now (memory .exit)) ≡ entering e (now (value .entry)) (kept s (now (memory .entry))) ⌝ }
 {
     let mut next = s;
     match e {
         Entry::Word(address, word) => {
             load(memory, address, word);
         }
-        Entry::Register(place, value) => {
-            if place < MACHINE_REGISTERS {
-                next.registers[place] = value;
-            }
+        Entry::Register(place, v) => {
+            next = with_register(s, place, v);
         }
         Entry::Budget(steps) => {
             next.budget = steps;
+        }
+        Entry::Input(n) => {
+            let bytes = desk_entry::bytes_of(value, n);
+            next.input = bytes;
+            next.typed = n;
+            next.devices = true;
         }
         Entry::Unfit => {}
     }
@@ -100,9 +124,10 @@ fn end_line(memory: &mut [u16; MEMORY_WORDS], s: Scanner) -> Scanner
     ensures { λ r. ⌜ kept r (now (memory .exit)) ≡ ended asking (kept s (now (memory .entry))) ⌝ }
 {
     let buffer = s.bytes;
-    let e = desk_entry::entry_of(characters::part(&buffer, 0, s.size));
+    let line = characters::part(&buffer, 0, s.size);
+    let e = desk_entry::entry_of(line);
     if is_fit(e) {
-        return next_line(entered(memory, s, e));
+        return next_line(entered(memory, s, e, text_fields::field_of(line, 1)));
     }
     refused(s)
 }
@@ -132,20 +157,16 @@ pub fn begin(memory: &mut [u16; MEMORY_WORDS]) -> Scanner
     ensures { λ r. ⌜ kept r (now (memory .exit)) ≡ scanOf asking [] ⌝ }
 {
     *memory = [0; MEMORY_WORDS];
-    let start = Machine {
-        lac: 0,
-        pc: 0o200,
-        run: 1,
-        enable: 0,
-        request: 0,
-        switches: 0,
-    };
     Scanner {
         line: 1,
         size: 0,
         bytes: [0; LINE_BYTES],
-        registers: machine_state::registers::values_of(start),
+        // PC and RUN
+        registers: [0, 0o200, 1, 0, 0, 0, 0, 0, 0, 0, 0],
         budget: 16,
+        input: [0; INPUT_BYTES],
+        typed: 0,
+        devices: false,
         refused: 0,
     }
 }

@@ -6,7 +6,7 @@ use Prim.Native.Nat.{ℕ, _+_, _≤_}
 use native.Mathlib.Omega.{arith}
 use lib.ListN.{length, length-append}
 use Rattle.state.specs.declared.Reason.{Reason}
-use Rattle.state.specs.declared.Reason.the-variants.{Halted, Spent}
+use Rattle.state.specs.declared.Reason.the-variants.{Halted, Spent, Paper}
 use Rattle.characters.specs.Ascii.{ascii, tab, lineFeed}
 use Rattle.page.specs.Text.{decimal}
 use Rattle.desk_last_lines.specs.LastLines.{reasonWord, endLine}
@@ -19,3 +19,4 @@ end-line steps why = append-assoc (ascii "end\t" ++ decimal steps) (tab ∷ reas
 pub end-size : (steps : ℕ) (why : Reason) → length (endLine steps why) ≤ 12 + length (decimal steps)
 end-size steps Halted = rw (end-line steps Halted) (simp length-append (omega arith))
 end-size steps Spent = rw (end-line steps Spent) (simp length-append (omega arith))
+end-size steps Paper = rw (end-line steps Paper) (simp length-append (omega arith))

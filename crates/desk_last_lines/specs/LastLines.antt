@@ -3,14 +3,15 @@
 use mathlib.Core.List.{List, [], _∷_, _++_}
 use Prim.Native.Nat.{ℕ, zero, suc}
 use Rattle.state.specs.declared.Reason.{Reason}
-use Rattle.state.specs.declared.Reason.the-variants.{Halted, Spent}
+use Rattle.state.specs.declared.Reason.the-variants.{Halted, Spent, Paper}
 use Rattle.characters.specs.Ascii.{ascii, tab, lineFeed}
 use Rattle.page.specs.Text.{decimal}
 
--- "`halted` if RUN is 0 at the end, else `spent`"
+-- "`halted` if RUN is 0 at the end, else `spent`"; with devices "`halted` if RUN is 0, else `paper`, else `spent`"
 abbrev pub reasonWord : Reason → List ℕ
 reasonWord Halted = ascii "halted"
 reasonWord Spent = ascii "spent"
+reasonWord Paper = ascii "paper"
 
 -- "last, the steps done and the reason"
 unfoldable pub endLine : ℕ → Reason → List ℕ

@@ -28,13 +28,13 @@ placed-size first address word =
     let value = octal-length 4 word in
     simp length-append (omega arith)
 
-pub last-size : (address word : ℕ) → length (lastLine address word) ≤ lastLineBytes
+pub last-size : (devices : Bool) (address word : ℕ) → length (lastLine devices address word) ≤ lastLineBytes
 unfolding lastLine
-last-size address word =
+last-size devices address word =
     let start = placed-size (ascii "last") address word in
-    let name = mnemonic-size word address in
-    let line = length-append (placed (ascii "last") address word ++ tab ∷ mnemonic word address) (lineFeed ∷ []) in
-    let parts = length-append (placed (ascii "last") address word) (tab ∷ mnemonic word address) in
+    let name = mnemonic-size devices word address in
+    let line = length-append (placed (ascii "last") address word ++ tab ∷ mnemonic devices word address) (lineFeed ∷ []) in
+    let parts = length-append (placed (ascii "last") address word) (tab ∷ mnemonic devices word address) in
     omega arith
 
 word-size : (address before after : ℕ) → length (wordLine address before after) ≡ wordLineBytes

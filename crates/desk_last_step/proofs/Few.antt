@@ -10,14 +10,17 @@ use lib.ListN.{length, getD, set}
 use Rattle.word.specs.Choice.{on}
 use Rattle.word.specs.Word.{next}
 use Rattle.word.proofs.Choice.{pick-either}
-use Rattle.machine_state.specs.State.{State, word, withPc, withMemory, ac}
-use Rattle.machine_state.specs.Instruction.{op, flag}
-use Rattle.machine_state.specs.Interrupt.{takesInterrupt, interruptTest, testedIf, ion, iof, inputOutput}
+use Rattle.devices.specs.declared.Devices.{Devices}
+use Rattle.machine_state.specs.State.{State, word, withPc, withRequest, withMemory, ac}
+use Rattle.machine_state.specs.Instruction.{op, flag, isDevice}
+use Rattle.machine_state.specs.Interrupt.{takesInterrupt, interruptTest, ion, iof, inputOutput}
 use Rattle.machine_operate.specs.Operate.{group1, group2, group3, operate}
 use Rattle.machine_reference.specs.Address.{firstAddress, isIndex, indexed, effective, afterIndexing}
 use Rattle.machine_reference.specs.Reference.{operation, reference}
 use Rattle.machine_reference.proofs.Ops.{by-op}
 use Rattle.machine_run.specs.Step.{execute, makesTest, stepWith, step}
+use Rattle.machine_console.specs.Instructions.{stateAfter, devicesAfter}
+use Rattle.machine_console.specs.Console.{Console, line, lineTest, deviceStep, consoleStep}
 use Rattle.desk_last_step.specs.LastStep.{changeLines}
 use Rattle.desk_last_step.specs.Sizes.{wordLineBytes, changeLinesBytes}
 use Rattle.desk_last_step.proofs.Changes.{unchanged, stored-size}
@@ -41,8 +44,10 @@ module _ (before : List ℕ) (n : ℕ) where
   interrupt-few s h =
       pick-either (FewIn before (n + wordLineBytes)) (takesInterrupt s) (stores (s .memory) 0 (s .pc) h) (more (s .memory) h)
 
-  tested-few : (made : Bool) (s : State) → FewIn before n s → FewIn before (n + wordLineBytes) (testedIf interruptTest made s)
-  tested-few made s h = pick-either (FewIn before (n + wordLineBytes)) made (interrupt-few s h) (more (s .memory) h)
+  -- with devices the test refreshes INTERRUPT.REQUEST before it
+  line-few : (c : Devices) (s : State) → FewIn before n s → FewIn before (n + wordLineBytes) (lineTest c s)
+  unfolding lineTest
+  line-few c s h = interrupt-few (withRequest (line c) s) h
 
   indexed-few : (a : ℕ) (memory : List ℕ) → Few before n memory → Few before (n + wordLineBytes) (indexed a memory)
   unfolding indexed
@@ -86,9 +91,29 @@ execute-few before n i last s h =
     pick-either P (eqb (op i) 6) (omega (arith, inputOutput-few before n i s h))
     (pick-either P (eqb (op i) 7) (omega (arith, operate-few before n i s h)) (reference-few before n i last s h))
 
-pub step-few : (s : State) → length (changeLines 0 (s .memory) (step s .memory)) ≤ changeLinesBytes
+-- a step, by an interrupt test that stores at most one word
+step-with-few : (test : State → State) → ((before : List ℕ) (n : ℕ) (s : State) → FewIn before n s → FewIn before (n + wordLineBytes) (test s))
+    → (s : State) → length (changeLines 0 (s .memory) (stepWith test s .memory)) ≤ changeLinesBytes
 unfolding stepWith
-step-few s =
+step-with-few test few s =
     let i : ℕ = word (s .pc) s in
-    tested-few (s .memory) (wordLineBytes + wordLineBytes) (makesTest i) _
-    (execute-few (s .memory) 0 i (s .pc) (withPc (next (s .pc)) s) (omega (arith, unchanged 0 (s .memory))))
+    let executed = execute-few (s .memory) 0 i (s .pc) (withPc (next (s .pc)) s) (omega (arith, unchanged 0 (s .memory))) in
+    pick-either (FewIn (s .memory) changeLinesBytes) (makesTest i) (few (s .memory) (wordLineBytes + wordLineBytes) _ executed) (omega (arith, executed))
+
+pub step-few : (s : State) → length (changeLines 0 (s .memory) (step s .memory)) ≤ changeLinesBytes
+step-few s = step-with-few interruptTest interrupt-few s
+
+-- with devices: a device's word stores nothing itself
+device-few : (x : Console) → length (changeLines 0 (x .state .memory) (deviceStep x .state .memory)) ≤ changeLinesBytes
+unfolding deviceStep stateAfter
+device-few x =
+    let s = x .state in
+    let i : ℕ = word (s .pc) s in
+    omega (arith, line-few (s .memory) 0 (devicesAfter i (s .lac) (x .devices)) (stateAfter i (x .devices) (withPc (next (s .pc)) s)) (omega (arith, unchanged 0 (s .memory))))
+
+pub console-few : (x : Console) → length (changeLines 0 (x .state .memory) (consoleStep x .state .memory)) ≤ changeLinesBytes
+unfolding consoleStep
+console-few x =
+    let s = x .state in
+    pick-either (λ (y : Console). FewIn (s .memory) changeLinesBytes (y .state)) (isDevice (word (s .pc) s)) (device-few x)
+    (step-with-few (lineTest (x .devices)) (λ before n t. line-few before n (x .devices) t) s)

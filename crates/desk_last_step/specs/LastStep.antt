@@ -1,5 +1,6 @@
 -- What the last step of a run did: the lines of its instruction and of the words that it changed. The sentences quoted are README's, of "Explain a run".
 -- Assumes nothing.
+use mathlib.Core.Bool.{Bool}
 use mathlib.Core.List.{List, [], _∷_, _++_}
 use Prim.Native.Nat.{ℕ, suc}
 use lib.Dec.{eqb}
@@ -13,9 +14,9 @@ use Rattle.desk_mnemonics.specs.Mnemonics.{mnemonic}
 abbrev pub placed : List ℕ → ℕ → ℕ → List ℕ
 placed first address word = first ++ tab ∷ octal 4 address ++ tab ∷ octal 4 word
 
--- "the instruction of the last step: its address, the word fetched there, its mnemonic"
-unfoldable pub lastLine : ℕ → ℕ → List ℕ
-lastLine address word = placed (ascii "last") address word ++ tab ∷ mnemonic word address ++ lineFeed ∷ []
+-- "the instruction of the last step: its address, the word fetched there, its mnemonic", on the machine with devices or without
+unfoldable pub lastLine : Bool → ℕ → ℕ → List ℕ
+lastLine devices address word = placed (ascii "last") address word ++ tab ∷ mnemonic devices word address ++ lineFeed ∷ []
 
 -- "a word of memory ..: its address, the word before the step, the word after it"
 unfoldable pub wordLine : ℕ → ℕ → ℕ → List ℕ
@@ -32,5 +33,5 @@ changeLines address (x ∷ before) [] = []
 changeLines address (x ∷ before) (y ∷ after) = changeLine address x y ++ changeLines (suc address) before after
 
 -- by PC and memory before the step, and memory after it; "With 0 steps there is no `last`, no `word`"
-unfoldable pub lastStep : ℕ → ℕ → List ℕ → List ℕ → List ℕ
-lastStep steps pc before after = pick (on steps) (lastLine pc (getD before pc 0) ++ changeLines 0 before after) []
+unfoldable pub lastStep : Bool → ℕ → ℕ → List ℕ → List ℕ → List ℕ
+lastStep devices steps pc before after = pick (on steps) (lastLine devices pc (getD before pc 0) ++ changeLines 0 before after) []

@@ -4,7 +4,7 @@ use Prim.Native.Nat.{ℕ}
 
 -- the most bytes that the line of an instruction has, that of a word, and all lines of a step: "at most three" of words
 abbrev pub lastLineBytes : ℕ
-lastLineBytes = 138
+lastLineBytes = 170
 
 abbrev pub wordLineBytes : ℕ
 wordLineBytes = 20

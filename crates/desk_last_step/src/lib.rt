@@ -22,12 +22,12 @@ fn put_place(page: &mut [u8], at: usize, first: &[u8], address: u64, word: u16) 
 }
 
 // The line of an instruction.
-fn put_instruction(page: &mut [u8], at: usize, address: u16, word: u16) -> usize
+fn put_instruction(page: &mut [u8], at: usize, devices: bool, address: u16, word: u16) -> usize
     requires { ⌜ at + lastLineBytes ≤ length (now page) ⌝ }
-    ensures { λ r. ⌜ Written (lastLine address word) (now (page .entry)) at (now (page .exit)) r ⌝ }
+    ensures { λ r. ⌜ Written (lastLine devices address word) (now (page .entry)) at (now (page .exit)) r ⌝ }
 {
     let name = put_place(page, at, b"last", address as u64, word);
-    let end = put_mnemonic(page, name, word, address);
+    let end = put_mnemonic(page, name, devices, word, address);
     put_byte(page, end, LINE_FEED)
 }
 
@@ -58,10 +58,11 @@ fn put_words(page: &mut [u8], at: usize, before: &[u16], after: &[u16]) -> usize
     end
 }
 
-// The lines of a run's last step, by its number, PC and memory before it, and memory after it; none where there was no step.
+// The lines of a run's last step, on the machine with devices or without, by its number, PC and memory before it, and memory after it; none where there was no step.
 pub fn put_last_step(
     page: &mut [u8],
     at: usize,
+    devices: bool,
     steps: u64,
     pc: u16,
     before: &[u16],
@@ -69,11 +70,11 @@ pub fn put_last_step(
 ) -> usize
     requires { ⌜ at + lastLineBytes + length (changeLines 0 (now before) (now after)) ≤ length (now page) ⌝
         ∗ ⌜ pc < length (now before) ⌝ ∗ ⌜ length (now after) ≡ length (now before) ⌝ }
-    ensures { λ r. ⌜ Written (lastStep steps pc (now (before .entry)) (now (after .entry))) (now (page .entry)) at (now (page .exit)) r ⌝ }
+    ensures { λ r. ⌜ Written (lastStep devices steps pc (now (before .entry)) (now (after .entry))) (now (page .entry)) at (now (page .exit)) r ⌝ }
 {
     if steps == 0 {
         return at;
     }
-    let end = put_instruction(page, at, pc, before[pc as usize]);
+    let end = put_instruction(page, at, devices, pc, before[pc as usize]);
     put_words(page, end, before, after)
 }

@@ -1,6 +1,7 @@
 -- README's table of op 7, bit by bit: the names that the definition's masks and codes give are those, of every instruction of op 7. And a few mnemonics as they are written.
 -- Assumes nothing.
 use mathlib.Core.Path.{_≡_, refl}
+use mathlib.Core.Bool.{Bool, true, false}
 use mathlib.Core.List.{List, [], _∷_, _++_, map}
 use Prim.Native.Nat.{ℕ, zero, suc, _+_}
 use Rattle.word.specs.Choice.{on, pick}
@@ -9,7 +10,7 @@ use Rattle.machine_state.specs.Instruction.{flag}
 use Rattle.machine_reference.specs.Address.{firstAddress}
 use Rattle.characters.specs.Ascii.{ascii}
 use Rattle.page.specs.Text.{octal}
-use Rattle.desk_mnemonics.specs.Mnemonics.{names, namesOf, spaced, mnemonic}
+use Rattle.desk_mnemonics.specs.Mnemonics.{names, deviceNames, handbook, namesOf, spaced, mnemonic}
 
 -- "a name for each bit that selects something"
 abbrev for : ℕ → ℕ → List ℕ → List (List ℕ)
@@ -44,12 +45,20 @@ abbrev below : ℕ → ℕ → List ℕ
 below first zero = []
 below first (suc n) = (first + n) ∷ below first n
 
-pub op7-names : map (λ (i : ℕ). namesOf i names) (below 0o7000 512) ≡ map byBits (below 0o7000 512)
-unfolding names namesOf
-op7-names = refl
+pub op7-names : (devices : Bool) → map (λ (i : ℕ). namesOf i (handbook devices)) (below 0o7000 512) ≡ map byBits (below 0o7000 512)
+unfolding names deviceNames namesOf
+op7-names true = refl
+op7-names false = refl
 
-pub written : map (λ (i : ℕ). mnemonic i 0o250) (0o3250 ∷ 0o1420 ∷ 0o5610 ∷ 0o6001 ∷ 0o6002 ∷ 0o6046 ∷ 0o7000 ∷ 0o7002 ∷ 0o7012 ∷ 0o7014 ∷ 0o7300 ∷ 0o7402 ∷ 0o7410 ∷ 0o7601 ∷ [])
+pub written : map (λ (i : ℕ). mnemonic false i 0o250) (0o3250 ∷ 0o1420 ∷ 0o5610 ∷ 0o6001 ∷ 0o6002 ∷ 0o6046 ∷ 0o7000 ∷ 0o7002 ∷ 0o7012 ∷ 0o7014 ∷ 0o7300 ∷ 0o7402 ∷ 0o7410 ∷ 0o7601 ∷ [])
     ≡ ascii "DCA 0250" ∷ ascii "TAD I 0020" ∷ ascii "JMP I 0210" ∷ ascii "ION" ∷ ascii "IOF" ∷ ascii "IOT" ∷ ascii "NOP" ∷ ascii "NOP" ∷ ascii "RTR"
     ∷ ascii "RAL RAR" ∷ ascii "CLA CLL" ∷ ascii "HLT" ∷ ascii "SKP" ∷ ascii "CLA" ∷ []
 unfolding firstAddress octal names namesOf spaced mnemonic
 written = refl
+
+-- with devices: the eight words, and no other of devices 03 and 04
+pub device-words : map (λ (i : ℕ). mnemonic true i 0o250) (0o6031 ∷ 0o6032 ∷ 0o6034 ∷ 0o6036 ∷ 0o6041 ∷ 0o6042 ∷ 0o6044 ∷ 0o6046 ∷ 0o6030 ∷ 0o6037 ∷ 0o6047 ∷ 0o6001 ∷ 0o3250 ∷ 0o7402 ∷ [])
+    ≡ ascii "KSF" ∷ ascii "KCC" ∷ ascii "KRS" ∷ ascii "KRB" ∷ ascii "TSF" ∷ ascii "TCF" ∷ ascii "TPC" ∷ ascii "TLS" ∷ ascii "IOT" ∷ ascii "IOT"
+    ∷ ascii "IOT" ∷ ascii "ION" ∷ ascii "DCA 0250" ∷ ascii "HLT" ∷ []
+unfolding firstAddress octal names deviceNames namesOf spaced mnemonic
+device-words = refl

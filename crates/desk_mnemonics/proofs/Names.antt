@@ -8,7 +8,7 @@ use native.Mathlib.Numerals.{add-one}
 use native.Mathlib.Omega.{arith}
 use lib.Dec.{eqb, leb, ltb}
 use lib.ListN.{length, getD, take, length-append}
-use lib.Seq.{take-suc, take-all}
+use lib.Seq.{take-suc}
 use borrow.Author.Tests.{leb-true}
 use Rattle.laws.proofs.Joined.{and-left, and-right}
 use Rattle.word.specs.Choice.{on, pick}
@@ -18,14 +18,28 @@ use Rattle.characters.specs.Ascii.{ascii, tab}
 use Rattle.page.specs.Text.{octal}
 use Rattle.page.proofs.Numbers.{octal-length}
 use Rattle.desk_mnemonics.specs.declared.Name.{Name}
-use Rattle.desk_mnemonics.specs.Mnemonics.{names, isNamed, namesOf, unnamed, space, spaced, parted, operand, mnemonic}
+use Rattle.desk_mnemonics.specs.Mnemonics.{names, deviceNames, handbook, isNamed, namesOf, unnamed, space, spaced, parted, operand, mnemonic}
 use Rattle.desk_mnemonics.specs.Sizes.{noName, nameBytes, namesBytes, operandBytes, mnemonicBytes}
 
 -- ---- the table
 
-pub names-count : length names ≡ 28
-unfolding names
+pub names-count : length (handbook true) ≡ 36
+unfolding names deviceNames
 names-count = refl
+
+pub plain-count : length (handbook false) ≡ 28
+unfolding names
+plain-count = refl
+
+-- a machine's names are the first of all
+pub names-within : (devices : Bool) → length (handbook devices) ≤ 36
+names-within true = omega (arith, names-count)
+names-within false = omega (arith, plain-count)
+
+names-first : (devices : Bool) → take (length (handbook devices)) (handbook true) ≡ handbook devices
+unfolding names deviceNames
+names-first true = refl
+names-first false = refl
 
 -- whether no name has more than n letters
 abbrev allWithin : ℕ → List Name → Bool
@@ -37,12 +51,13 @@ each-within n [] t k = omega arith
 each-within n (m ∷ ns) t zero = leb-true (length (m .letters)) n (and-left (leb (length (m .letters)) n) (allWithin n ns) t)
 each-within n (m ∷ ns) t (suc k) = each-within n ns (and-right (leb (length (m .letters)) n) (allWithin n ns) t) k
 
-three-letters : allWithin 3 names ≡ true
-unfolding names
-three-letters = refl
+three-letters : (devices : Bool) → allWithin 3 (handbook devices) ≡ true
+unfolding names deviceNames
+three-letters true = refl
+three-letters false = refl
 
-pub name-size : (k : ℕ) → length (getD names k noName .letters) ≤ 3
-name-size k = each-within 3 names three-letters k
+pub name-size : (k : ℕ) → length (getD (handbook true) k noName .letters) ≤ 3
+name-size k = each-within 3 (handbook true) (three-letters true) k
 
 -- ---- names so far
 
@@ -85,14 +100,14 @@ names-snoc i (m ∷ ns) n =
 
 -- the names among the first k of the table
 abbrev pub found : ℕ → ℕ → List (List ℕ)
-found i k = namesOf i (take k names)
+found i k = namesOf i (take k (handbook true))
 
-module _ (i k : ℕ) (h : k < length names) where
+module _ (i k : ℕ) (h : k < length (handbook true)) where
   abbrev last : Name
-  last = getD names k noName
+  last = getD (handbook true) k noName
 
   found-more : found i (k + 1) ≡ found i k ++ pick (isNamed i last) (last .letters ∷ []) []
-  found-more = ap (found i) (add-one k) ∙ ap (namesOf i) (take-suc names k noName h) ∙ names-snoc i (take k names) last
+  found-more = ap (found i) (add-one k) ∙ ap (namesOf i) (take-suc (handbook true) k noName h) ∙ names-snoc i (take k (handbook true)) last
 
   pub text-more : (mark : ℕ) → mark ≡ markOf (found i k) → begun (found i (k + 1)) ≡ begun (found i k) ++ pick (isNamed i last) (mark ∷ last .letters) []
   text-more mark e =
@@ -106,9 +121,9 @@ module _ (i k : ℕ) (h : k < length names) where
       ∙ mark-more (isNamed i last) (found i k) (last .letters)
       ∙ ap markOf (sym found-more)
 
--- all of them
-pub found-all : (i k : ℕ) → 28 ≤ k → found i k ≡ namesOf i names
-found-all i k h = ap (namesOf i) (take-all k names (omega (arith, names-count)))
+-- all of a machine's
+pub found-all : (devices : Bool) (i k : ℕ) → k ≡ length (handbook devices) → found i k ≡ namesOf i (handbook devices)
+found-all devices i k h = ap (found i) h ∙ ap (namesOf i) (names-first devices)
 
 -- with none the mark is still TAB, and what stands for none follows
 pub none-named : (none : List ℕ) (ws : List (List ℕ)) → markOf ws ≡ tab → begun ws ++ tab ∷ none ≡ tab ∷ parted none ws
@@ -166,16 +181,16 @@ unnamed-size : (t : Bool) → length (pick t (ascii "IOT") (ascii "NOP")) ≤ 3
 unnamed-size true = omega arith
 unnamed-size false = omega arith
 
-pub names-size : (i : ℕ) → length (tab ∷ parted (unnamed i) (namesOf i names)) ≤ namesBytes
-names-size i =
-    let behind = spaced-size i names three-letters in
-    let first = parted-size (unnamed i) (namesOf i names) (unnamed-size (eqb (op i) 6)) in
-    omega (arith, names-count)
+pub names-size : (devices : Bool) (i : ℕ) → length (tab ∷ parted (unnamed i) (namesOf i (handbook devices))) ≤ namesBytes
+names-size devices i =
+    let behind = spaced-size i (handbook devices) (three-letters devices) in
+    let first = parted-size (unnamed i) (namesOf i (handbook devices)) (unnamed-size (eqb (op i) 6)) in
+    omega (arith, names-within devices)
 
-pub mnemonic-size : (i last : ℕ) → length (tab ∷ mnemonic i last) ≤ mnemonicBytes
+pub mnemonic-size : (devices : Bool) (i last : ℕ) → length (tab ∷ mnemonic devices i last) ≤ mnemonicBytes
 unfolding mnemonic
-mnemonic-size i last =
-    let first = names-size i in
+mnemonic-size devices i last =
+    let first = names-size devices i in
     let then = picked-size (ltb (op i) 6) (operand i last) operandBytes (operand-size i last) in
-    let whole = length-append (tab ∷ parted (unnamed i) (namesOf i names)) (pick (ltb (op i) 6) (operand i last) []) in
+    let whole = length-append (tab ∷ parted (unnamed i) (namesOf i (handbook devices))) (pick (ltb (op i) 6) (operand i last) []) in
     omega arith

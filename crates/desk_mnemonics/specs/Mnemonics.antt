@@ -1,6 +1,6 @@
 -- Mnemonics: "the handbook's names" of an instruction. The sentences quoted are README's, of "Explain a run".
 -- Assumes nothing.
-use mathlib.Core.Bool.{Bool}
+use mathlib.Core.Bool.{Bool, true, false}
 use mathlib.Core.List.{List, [], _∷_, _++_}
 use Prim.Native.Nat.{ℕ}
 use lib.Bits.{bitAnd}
@@ -51,6 +51,24 @@ names =
     ∷ record { mask = 0o7601; code = 0o7601; letters = ascii "CLA" }
     ∷ []
 
+-- with devices, the eight words of keyboard and teleprinter, too
+unfoldable pub deviceNames : List Name
+deviceNames =
+    record { mask = 0o7777; code = 0o6031; letters = ascii "KSF" }
+    ∷ record { mask = 0o7777; code = 0o6032; letters = ascii "KCC" }
+    ∷ record { mask = 0o7777; code = 0o6034; letters = ascii "KRS" }
+    ∷ record { mask = 0o7777; code = 0o6036; letters = ascii "KRB" }
+    ∷ record { mask = 0o7777; code = 0o6041; letters = ascii "TSF" }
+    ∷ record { mask = 0o7777; code = 0o6042; letters = ascii "TCF" }
+    ∷ record { mask = 0o7777; code = 0o6044; letters = ascii "TPC" }
+    ∷ record { mask = 0o7777; code = 0o6046; letters = ascii "TLS" }
+    ∷ []
+
+-- the names of a machine, by whether it has devices
+abbrev pub handbook : Bool → List Name
+handbook true = names ++ deviceNames
+handbook false = names
+
 -- whether an instruction has a name
 abbrev pub isNamed : ℕ → Name → Bool
 isNamed i n = eqb (bitAnd i (n .mask)) (n .code)
@@ -81,6 +99,6 @@ parted none (w ∷ ws) = w ++ spaced ws
 abbrev pub operand : ℕ → ℕ → List ℕ
 operand i last = pick (on (ib i)) (ascii " I ") (ascii " ") ++ octal 4 (firstAddress i last)
 
--- the mnemonic of the instruction i that was fetched from `last`; "Ops 0 to 5" have an operand
-unfoldable pub mnemonic : ℕ → ℕ → List ℕ
-mnemonic i last = parted (unnamed i) (namesOf i names) ++ pick (ltb (op i) 6) (operand i last) []
+-- the mnemonic of the instruction i that was fetched from `last`, with devices or without; "Ops 0 to 5" have an operand
+unfoldable pub mnemonic : Bool → ℕ → ℕ → List ℕ
+mnemonic devices i last = parted (unnamed i) (namesOf i (handbook devices)) ++ pick (ltb (op i) 6) (operand i last) []

@@ -13,11 +13,11 @@ abbrev pub nameBytes : ℕ
 nameBytes = 4
 
 abbrev pub namesBytes : ℕ
-namesBytes = 116
+namesBytes = 148
 
 abbrev pub operandBytes : ℕ
 operandBytes = 7
 
 -- the most that a mnemonic behind a TAB has
 abbrev pub mnemonicBytes : ℕ
-mnemonicBytes = 123
+mnemonicBytes = 155

@@ -4,6 +4,7 @@ use machine_reference::address::first_address;
 use page::put_byte;
 use page::put_octal;
 use page::put_text;
+ghost use mathlib.Core.Bool.{true};
 ghost use mathlib.Core.Path.{_≡_};
 ghost use mathlib.Core.List.{[], _∷_};
 ghost use Prim.Native.Nat.{_+_, _<_, _≤_};
@@ -12,7 +13,7 @@ ghost use Rattle.word.specs.Choice.{pick, on};
 ghost use Rattle.machine_state.specs.Instruction.{ib};
 ghost use Rattle.characters.specs.Ascii.{ascii, tab};
 ghost use Rattle.page.specs.Written.{Written};
-ghost use Rattle.desk_mnemonics.specs.Mnemonics.{names, isNamed, namesOf, unnamed, space, parted, operand, mnemonic};
+ghost use Rattle.desk_mnemonics.specs.Mnemonics.{handbook, isNamed, namesOf, unnamed, space, parted, operand, mnemonic};
 ghost use Rattle.desk_mnemonics.specs.Sizes.{noName, nameBytes, namesBytes, operandBytes, mnemonicBytes};
 
 // A name of the handbook: an instruction has it where the bits of the mask are as in the code.
@@ -22,11 +23,14 @@ pub struct Name {
     pub letters: [u8; 3],
 }
 
-const NAMES: usize = 28;
+// The names of the machine without devices, and all.
+const PLAIN_NAMES: usize = 28;
+
+const NAMES: usize = 36;
 
 const SPACE: u8 = 32;
 
-// The names, in the order in which a mnemonic has them.
+// The names, in the order in which a mnemonic has them; last those of the devices.
 const TABLE: [Name; NAMES] = [
     Name {
         mask: 0o7000,
@@ -168,12 +172,59 @@ const TABLE: [Name; NAMES] = [
         code: 0o7601,
         letters: *b"CLA",
     },
+    Name {
+        mask: 0o7777,
+        code: 0o6031,
+        letters: *b"KSF",
+    },
+    Name {
+        mask: 0o7777,
+        code: 0o6032,
+        letters: *b"KCC",
+    },
+    Name {
+        mask: 0o7777,
+        code: 0o6034,
+        letters: *b"KRS",
+    },
+    Name {
+        mask: 0o7777,
+        code: 0o6036,
+        letters: *b"KRB",
+    },
+    Name {
+        mask: 0o7777,
+        code: 0o6041,
+        letters: *b"TSF",
+    },
+    Name {
+        mask: 0o7777,
+        code: 0o6042,
+        letters: *b"TCF",
+    },
+    Name {
+        mask: 0o7777,
+        code: 0o6044,
+        letters: *b"TPC",
+    },
+    Name {
+        mask: 0o7777,
+        code: 0o6046,
+        letters: *b"TLS",
+    },
 ];
+
+// How many rows of the table are a machine's names, by whether it has devices.
+fn count(devices: bool) -> usize
+    ensures { λ r. ⌜ r ≡ length (handbook devices) ⌝ }
+{
+    if devices { NAMES } else { PLAIN_NAMES }
+}
 
 // A row of the table.
 fn name_at(k: usize) -> Name
-    requires { ⌜ k < length names ⌝ }
-    ensures { λ r. ⌜ r ≡ getD names k noName ⌝ }
+    requires { ⌜ k < length (handbook true) ⌝ }
+    ensures { λ r. ⌜ r ≡ getD (handbook true) k noName ⌝ }
 {
     TABLE[k]
 }
@@ -219,14 +270,15 @@ fn put_unnamed(page: &mut [u8], at: usize, i: u16) -> usize
 }
 
 // The names that an instruction has, behind a TAB.
-fn put_names(page: &mut [u8], at: usize, i: u16) -> usize
+fn put_names(page: &mut [u8], at: usize, devices: bool, i: u16) -> usize
     requires { ⌜ at + namesBytes ≤ length (now page) ⌝ }
-    ensures { λ r. ⌜ Written (tab ∷ parted (unnamed i) (namesOf i names)) (now (page .entry)) at (now (page .exit)) r ⌝ }
+    ensures { λ r. ⌜ Written (tab ∷ parted (unnamed i) (namesOf i (handbook devices))) (now (page .entry)) at (now (page .exit)) r ⌝ }
 {
+    let rows = count(devices);
     let mut end = at;
     let mut mark = TAB;
     let mut k = 0;
-    while k < NAMES {
+    while k < rows {
         let name = name_at(k);
         end = put_name(page, end, mark, i, name);
         mark = mark_after(mark, i, name);
@@ -261,12 +313,12 @@ fn put_mark(page: &mut [u8], at: usize, i: u16) -> usize
     }
 }
 
-// The mnemonic of the instruction i that was fetched from `last`, behind a TAB.
-pub fn put_mnemonic(page: &mut [u8], at: usize, i: u16, last: u16) -> usize
+// The mnemonic of the instruction i that was fetched from `last`, by the names of the machine with devices or without, behind a TAB.
+pub fn put_mnemonic(page: &mut [u8], at: usize, devices: bool, i: u16, last: u16) -> usize
     requires { ⌜ at + mnemonicBytes ≤ length (now page) ⌝ }
-    ensures { λ r. ⌜ Written (tab ∷ mnemonic i last) (now (page .entry)) at (now (page .exit)) r ⌝ }
+    ensures { λ r. ⌜ Written (tab ∷ mnemonic devices i last) (now (page .entry)) at (now (page .exit)) r ⌝ }
 {
-    let end = put_names(page, at, i);
+    let end = put_names(page, at, devices, i);
     if i / 512 % 8 < 6 {
         put_operand(page, end, i, last)
     } else {

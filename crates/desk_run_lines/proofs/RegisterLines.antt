@@ -1,24 +1,28 @@
 -- How many bytes a register's line has, where it ends on the page, and how many the lines of the machine registers, by their table, and of the four working registers have.
 -- Assumes nothing.
 use mathlib.Core.Path.{_≡_, refl, sym, ap, ap₂, _∙_}
+use mathlib.Core.Bool.{Bool, true, false}
 use mathlib.Core.List.{List, [], _∷_, _++_, append-nil, append-assoc}
 use Prim.Native.Nat.{ℕ, zero, suc, _+_, _≤_, _<_}
 use native.Mathlib.Numerals.{add-one}
 use native.Mathlib.Omega.{arith}
-use lib.ListN.{length, getD, take, drop, length-append}
+use lib.ListN.{length, getD, take, drop, length-append, length-drop}
 use lib.Dec.{lit≤}
 use lib.Seq.{drop-cons}
+use Rattle.devices.specs.declared.Devices.{Devices}
+use Rattle.devices.specs.Devices.{deviceValues}
 use Rattle.machine_state.specs.declared.Machine.{Machine}
-use Rattle.machine_state.specs.Registers.{machineRegisters, digitsOf, values}
+use Rattle.machine_state.specs.Registers.{digitsOf, values}
+use Rattle.desk_registers.specs.Registers.{deskRegisters}
 use Rattle.characters.specs.Named.{Named}
 use Rattle.characters.specs.Ascii.{ascii, tab, lineFeed}
 use Rattle.page.specs.Text.{octal}
 use Rattle.page.specs.Written.{Written}
 use Rattle.page.proofs.Numbers.{octal-length}
 use Rattle.text_declaration.specs.Rows.{Description}
-use Rattle.shipped_rows.specs.Variant.{plain}
+use Rattle.shipped_rows.specs.Variant.{Variant, plain, devices, registersOf, valuesOf}
 use Rattle.shipped_rows.proofs.Accepted.{shipped-is}
-use Rattle.desk_run_lines.specs.Registers.{registerLine, registerLines, workingRegisters, workingValues}
+use Rattle.desk_run_lines.specs.Registers.{registerLine, registerLines, variantOf, workingRegisters, workingValues}
 use Rattle.desk_run_lines.specs.Sizes.{registerLinesBytes, workingLinesBytes}
 
 register-size : (name : List ℕ) (n value : ℕ) → length (name ++ tab ∷ octal n value ++ lineFeed ∷ []) ≡ length name + n + 2
@@ -43,8 +47,9 @@ lines-size (r ∷ rs) (v ∷ vs) h =
     length-append (registerLine r v) (registerLines rs vs)
     ∙ ap₂ _+_ (register-size (r .name) (digitsOf (r .number)) v) (lines-size rs vs (omega arith))
 
-pub registers-size : (m : Machine) → length (registerLines machineRegisters (values m)) ≡ registerLinesBytes
-registers-size m = lines-size machineRegisters (values m) (lit≤ tt)
+pub registers-size : (v : Variant) (m : Machine) (c : Devices) → length (registerLines (registersOf v) (valuesOf v m c)) ≤ registerLinesBytes
+registers-size plain m c = omega (arith, lines-size (registersOf plain) (valuesOf plain m c) (lit≤ tt))
+registers-size devices m c = omega (arith, lines-size (registersOf devices) (valuesOf devices m c) (lit≤ tt))
 
 -- with the lines of the first k registers written there is room for the next
 pub lines-room : (rs : List Named) (z : Named) (k : ℕ) → k < length rs → linesSize (take k rs) + lineSize (getD rs k z) ≤ linesSize rs
@@ -66,25 +71,47 @@ pub lines-more : (rs : List Named) (vs : List ℕ) (z : Named) (k : ℕ) → k <
     → registerLines (take (k + 1) rs) (take (k + 1) vs) ≡ registerLines (take k rs) (take k vs) ++ registerLine (getD rs k z) (getD vs k 0)
 lines-more rs vs z k h q = rw (add-one k) (next-line rs vs z k h q)
 
+-- the machine registers are the first of the desk's, and so are their values
+pub registers-within : (d : Bool) → length (registersOf (variantOf d)) ≤ length deskRegisters
+registers-within true = lit≤ tt
+registers-within false = lit≤ tt
+
+pub registers-first : (d : Bool) (m : Machine) (c : Devices) →
+    let n = length (registersOf (variantOf d)) in
+    registerLines (take n deskRegisters) (take n (values m ++ deviceValues c)) ≡ registerLines (registersOf (variantOf d)) (valuesOf (variantOf d) m c)
+registers-first true m c = refl
+registers-first false m c = refl
+
 -- "A shipped description's registers that the emulator lacks": i, last.pc, eadd, skip
-pub working-registers : workingRegisters
-    ≡ record { name = ascii "i"; number = 12 } ∷ record { name = ascii "last.pc"; number = 12 }
+abbrev working : List Named
+working =
+    record { name = ascii "i"; number = 12 } ∷ record { name = ascii "last.pc"; number = 12 }
     ∷ record { name = ascii "eadd"; number = 12 } ∷ record { name = ascii "skip"; number = 1 } ∷ []
-working-registers = ap (λ (d : Description). drop (length machineRegisters) (d .registers)) (shipped-is plain)
 
--- they stand at places 6 to 9
-pub working-values : (values : List ℕ) → length values ≡ 16
-    → workingValues values ≡ getD values 6 0 ∷ getD values 7 0 ∷ getD values 8 0 ∷ getD values 9 0 ∷ drop 10 values
-working-values values h =
-    drop-cons values 6 0 (omega arith)
-    ∙ ap (λ (l : List ℕ). getD values 6 0 ∷ l) (drop-cons values 7 0 (omega arith)
-    ∙ ap (λ (l : List ℕ). getD values 7 0 ∷ l) (drop-cons values 8 0 (omega arith)
-    ∙ ap (λ (l : List ℕ). getD values 8 0 ∷ l) (drop-cons values 9 0 (omega arith))))
+pub working-registers : (v : Variant) → workingRegisters v ≡ working
+working-registers plain = ap (λ (d : Description). drop (length (registersOf plain)) (d .registers)) (shipped-is plain)
+working-registers devices = ap (λ (d : Description). drop (length (registersOf devices)) (d .registers)) (shipped-is devices)
 
-pub working-size : (values : List ℕ) → length values ≡ 16 → length (registerLines workingRegisters (workingValues values)) ≡ workingLinesBytes
-working-size values h =
-    let i = octal-length 4 (getD values 6 0) in
-    let last = octal-length 4 (getD values 7 0) in
-    let address = octal-length 4 (getD values 8 0) in
-    let skip = octal-length 1 (getD values 9 0) in
-    rw (working-registers, working-values values h) (simp length-append (omega arith))
+-- they stand behind the machine's
+pub working-values : (v : Variant) (n : ℕ) (values : List ℕ) → n ≡ length (registersOf v) → n + 4 ≤ length values
+    → workingValues v values ≡ getD values n 0 ∷ getD values (n + 1) 0 ∷ getD values (n + 2) 0 ∷ getD values (n + 3) 0 ∷ drop (n + 4) values
+working-values v n values e h =
+    let one : n + 1 ≡ suc n = omega arith in
+    let two : n + 2 ≡ suc (suc n) = omega arith in
+    let three : n + 3 ≡ suc (suc (suc n)) = omega arith in
+    let four : n + 4 ≡ suc (suc (suc (suc n))) = omega arith in
+    sym (ap (λ (k : ℕ). drop k values) e)
+    ∙ rw (one, two, three, four)
+    (drop-cons values n 0 (omega arith)
+    ∙ ap (λ (l : List ℕ). getD values n 0 ∷ l) (drop-cons values (suc n) 0 (omega arith)
+    ∙ ap (λ (l : List ℕ). getD values (suc n) 0 ∷ l) (drop-cons values (suc (suc n)) 0 (omega arith)
+    ∙ ap (λ (l : List ℕ). getD values (suc (suc n)) 0 ∷ l) (drop-cons values (suc (suc (suc n))) 0 (omega arith)))))
+
+pub working-size : (v : Variant) (values : List ℕ) → length values ≡ 16 → length (registerLines (workingRegisters v) (workingValues v values)) ≡ workingLinesBytes
+working-size v values h =
+    ap (λ (rs : List Named). length (registerLines rs (workingValues v values))) (working-registers v)
+    ∙ lines-size working (workingValues v values) (go v)
+  where
+    go : (w : Variant) → 4 ≤ length (workingValues w values)
+    go plain = omega (arith, h, length-drop 6 values)
+    go devices = omega (arith, h, length-drop 11 values)

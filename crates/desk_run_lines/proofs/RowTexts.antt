@@ -6,7 +6,7 @@ use mathlib.Core.List.{List, [], _∷_, _++_, append-nil, append-assoc}
 use Prim.Native.Nat.{ℕ, zero, suc, _+_, _-_, _≤_, _<_}
 use native.Mathlib.Numerals.{sub-one, add-one}
 use native.Mathlib.Omega.{arith}
-use lib.Dec.{eqb, leb}
+use lib.Dec.{eqb, leb, lit≤}
 use lib.ListN.{length, getD, take, length-append}
 use lib.Seq.{take-suc}
 use borrow.Author.Tests.{leb-true}
@@ -19,11 +19,12 @@ use Rattle.text_fields.specs.Fields.{before, after, Line, lines, field}
 use Rattle.text_fields.specs.Rests.{firstLine}
 use Rattle.text_fields.proofs.Lines.{first-line}
 use Rattle.laws.proofs.Joined.{and-left, and-right}
-use Rattle.shipped_rows.specs.Variant.{plain}
+use Rattle.text_limits.specs.Limits.{mostBytes}
+use Rattle.shipped_rows.specs.Variant.{Variant, plain, devices}
 use Rattle.shipped_rows.specs.Text.{shippedText}
 use Rattle.text_targets.specs.Targets.{isRow, passes}
 use Rattle.desk_run_lines.specs.Rows.{rowTexts, rowOf, isGo, labelOf, rowBelow, atLine, labelLine, rowLine, rowLines}
-use Rattle.desk_run_lines.specs.Sizes.{labelLineBytes, rowLineBytes}
+use Rattle.desk_run_lines.specs.Sizes.{labelLineBytes, rowLineBytes, rowTextBytes, Short}
 
 -- ---- one line
 
@@ -64,39 +65,44 @@ each-within f n [] h t k = h
 each-within f n (l ∷ ls) h t zero = leb-true (length (f l)) n (and-left (leb (length (f l)) n) (allWithin f n ls) t)
 each-within f n (l ∷ ls) h t (suc k) = each-within f n ls h (and-right (leb (length (f l)) n) (allWithin f n ls) t) k
 
--- the most bytes that a shipped row's text has
-abbrev pub rowTextBytes : ℕ
-rowTextBytes = 50
-
 abbrev itself : List ℕ → List ℕ
 itself l = l
 
-shipped-within : allWithin itself rowTextBytes (rowTexts (lines (shippedText plain))) ≡ true
+rows-within : (v : Variant) → allWithin itself rowTextBytes (rowTexts (lines (shippedText v))) ≡ true
 unfolding run same lines field rowTexts shippedText
-shipped-within = refl
+rows-within plain = refl
+rows-within devices = refl
 
-pub row-size : (k : ℕ) → length (rowOf k (shippedText plain)) ≤ rowTextBytes
-row-size k = each-within itself rowTextBytes (rowTexts (lines (shippedText plain))) (omega arith) shipped-within (k - 1)
-
--- and the line of its label
-labels-within : allWithin labelLine labelLineBytes (rowTexts (lines (shippedText plain))) ≡ true
+-- and the lines of their labels
+labels-within : (v : Variant) → allWithin (labelLine (shippedText v)) labelLineBytes (rowTexts (lines (shippedText v))) ≡ true
 unfolding run same lines field decimalIn decimal passes rowTexts shippedText atLine labelLine
-labels-within = refl
+labels-within plain = refl
+labels-within devices = refl
 
-no-label : length (labelLine []) ≤ labelLineBytes
+no-label : (text : List ℕ) → length (labelLine text []) ≤ labelLineBytes
 unfolding run same field labelLine
-no-label = omega arith
+no-label text = omega arith
 
-pub label-size : (k : ℕ) → length (labelLine (rowOf k (shippedText plain))) ≤ labelLineBytes
-label-size k = each-within labelLine labelLineBytes (rowTexts (lines (shippedText plain))) no-label labels-within (k - 1)
+text-size : (v : Variant) → length (shippedText v) ≤ mostBytes
+unfolding shippedText
+text-size plain = lit≤ tt
+text-size devices = lit≤ tt
+
+pub shipped-short : (v : Variant) → Short (shippedText v)
+shipped-short v =
+    record {
+      size = text-size v;
+      row = λ k. each-within itself rowTextBytes (rowTexts (lines (shippedText v))) (omega arith) (rows-within v) (k - 1);
+      label = λ k. each-within (labelLine (shippedText v)) labelLineBytes (rowTexts (lines (shippedText v))) (no-label (shippedText v)) (labels-within v) (k - 1);
+    }
 
 -- with a number below 256, the TAB and the LF
-pub row-line-size : (k : ℕ) → k < 256 → length (rowLine k) ≤ rowLineBytes
+pub row-line-size : (text : List ℕ) (k : ℕ) → Short text → k < 256 → length (rowLine text k) ≤ rowLineBytes
 unfolding rowLine
-row-line-size k h =
+row-line-size text k s h =
     let short = decimal-length 2 k (omega arith) in
-    let text = row-size k in
-    let label = label-size k in
+    let row = s .row k in
+    let label = s .label k in
     simp length-append (omega arith)
 
 -- ---- the line of a label
@@ -105,21 +111,25 @@ pub at-size : (label : List ℕ) (row : ℕ) → length (atLine label row) ≡ l
 unfolding atLine
 at-size label row = simp length-append (omega arith)
 
-pub go-label : (line : List ℕ) → isGo line ≡ true → labelLine line ≡ atLine (labelOf line) (rowBelow (labelOf line) (shippedText plain))
-unfolding labelLine
-go-label line t = ap (λ (b : Bool). pick b (atLine (labelOf line) (rowBelow (labelOf line) (shippedText plain))) []) t
+module _ (text line : List ℕ) where
+  pub go-label : isGo line ≡ true → labelLine text line ≡ atLine (labelOf line) (rowBelow (labelOf line) text)
+  unfolding labelLine
+  go-label t = ap (λ (b : Bool). pick b (atLine (labelOf line) (rowBelow (labelOf line) text)) []) t
 
-pub no-go : (line : List ℕ) → isGo line ≡ false → labelLine line ≡ []
-unfolding labelLine
-no-go line t = ap (λ (b : Bool). pick b (atLine (labelOf line) (rowBelow (labelOf line) (shippedText plain))) []) t
+  pub no-go : isGo line ≡ false → labelLine text line ≡ []
+  unfolding labelLine
+  no-go t = ap (λ (b : Bool). pick b (atLine (labelOf line) (rowBelow (labelOf line) text)) []) t
 
 -- ---- lines of rows
 
-rows-snoc : (ks : List ℕ) (k : ℕ) → rowLines (ks ++ k ∷ []) ≡ rowLines ks ++ rowLine k
-unfolding rowLines
-rows-snoc [] k = append-nil (rowLine k)
-rows-snoc (x ∷ ks) k = ap (λ (l : List ℕ). rowLine x ++ l) (rows-snoc ks k) ∙ sym (append-assoc (rowLine x) (rowLines ks) (rowLine k))
+module _ (text : List ℕ) where
+  rows-snoc : (ks : List ℕ) (k : ℕ) → rowLines text (ks ++ k ∷ []) ≡ rowLines text ks ++ rowLine text k
+  unfolding rowLines
+  rows-snoc [] k = append-nil (rowLine text k)
+  rows-snoc (x ∷ ks) k =
+      ap (λ (l : List ℕ). rowLine text x ++ l) (rows-snoc ks k) ∙ sym (append-assoc (rowLine text x) (rowLines text ks) (rowLine text k))
 
--- one row more
-pub rows-more : (rows : List ℕ) (i : ℕ) → i < length rows → rowLines (take (i + 1) rows) ≡ rowLines (take i rows) ++ rowLine (getD rows i 0)
-rows-more rows i h = ap (λ (n : ℕ). rowLines (take n rows)) (add-one i) ∙ ap rowLines (take-suc rows i 0 h) ∙ rows-snoc (take i rows) (getD rows i 0)
+  -- one row more
+  pub rows-more : (rows : List ℕ) (i : ℕ) → i < length rows → rowLines text (take (i + 1) rows) ≡ rowLines text (take i rows) ++ rowLine text (getD rows i 0)
+  rows-more rows i h =
+      ap (λ (n : ℕ). rowLines text (take n rows)) (add-one i) ∙ ap (rowLines text) (take-suc rows i 0 h) ∙ rows-snoc (take i rows) (getD rows i 0)

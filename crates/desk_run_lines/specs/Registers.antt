@@ -1,13 +1,14 @@
 -- The registers after a run, each on a line. The sentences quoted are README's, of "Explain a run", and document 01's.
 -- Assumes nothing.
+use mathlib.Core.Bool.{Bool, true, false}
 use mathlib.Core.List.{List, [], _∷_, _++_}
 use Prim.Native.Nat.{ℕ}
 use lib.ListN.{length, drop}
 use Rattle.characters.specs.Ascii.{tab, lineFeed}
 use Rattle.page.specs.Text.{octal}
 use Rattle.characters.specs.Named.{Named}
-use Rattle.machine_state.specs.Registers.{machineRegisters, digitsOf}
-use Rattle.shipped_rows.specs.Variant.{plain}
+use Rattle.machine_state.specs.Registers.{digitsOf}
+use Rattle.shipped_rows.specs.Variant.{Variant, plain, devices, registersOf}
 use Rattle.shipped_rows.specs.Shipped.{shipped}
 
 -- "its name and the value that the run leaves, in octal with a digit for every three bits begun"
@@ -20,10 +21,15 @@ registerLines [] vs = []
 registerLines (r ∷ rs) [] = []
 registerLines (r ∷ rs) (v ∷ vs) = registerLine r v ++ registerLines rs vs
 
+-- the machine with devices, or without
+abbrev pub variantOf : Bool → Variant
+variantOf true = devices
+variantOf false = plain
+
 -- "A shipped description's registers that the emulator lacks are its working registers": those after the machine's
-abbrev pub workingRegisters : List Named
-workingRegisters = drop (length machineRegisters) (shipped plain .registers)
+abbrev pub workingRegisters : Variant → List Named
+workingRegisters v = drop (length (registersOf v)) (shipped v .registers)
 
 -- their values among those of a description's registers
-abbrev pub workingValues : List ℕ → List ℕ
-workingValues values = drop (length machineRegisters) values
+abbrev pub workingValues : Variant → List ℕ → List ℕ
+workingValues v values = drop (length (registersOf v)) values

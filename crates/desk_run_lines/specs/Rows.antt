@@ -1,4 +1,4 @@
--- The rows of the shipped description, and the labels that they name. The sentences quoted are README's, of "Explain a run", and document 01's.
+-- The rows of a description, and the labels that they name. The sentences quoted are README's, of "Explain a run", and document 01's.
 -- Assumes nothing.
 use mathlib.Core.List.{List, [], _∷_, _++_}
 use mathlib.Core.Bool.{Bool, true, false}
@@ -10,8 +10,6 @@ use Rattle.page.specs.Text.{decimal}
 use Rattle.characters.specs.Characters.{same}
 use Rattle.text_fields.specs.Fields.{Line, lines, field}
 use Rattle.text_declaration.specs.Lines.{goWord}
-use Rattle.shipped_rows.specs.Variant.{plain}
-use Rattle.shipped_rows.specs.Text.{shippedText}
 use Rattle.text_targets.specs.Targets.{isRow, passes}
 use Rattle.text_targets.specs.declared.Target.{Target}
 use Rattle.text_targets.specs.declared.Target.the-variants.{Passes, Missing}
@@ -46,14 +44,14 @@ unfoldable pub atLine : List ℕ → ℕ → List ℕ
 atLine label row = ascii "at" ++ tab ∷ label ++ tab ∷ decimal row ++ lineFeed ∷ []
 
 -- "after each row that is a `go`"; nothing after another
-unfoldable pub labelLine : List ℕ → List ℕ
-labelLine line = pick (isGo line) (atLine (labelOf line) (rowBelow (labelOf line) (shippedText plain))) []
+unfoldable pub labelLine : List ℕ → List ℕ → List ℕ
+labelLine text line = pick (isGo line) (atLine (labelOf line) (rowBelow (labelOf line) text)) []
 
--- "its number, and its line of description/pdp8.rows"
-unfoldable pub rowLine : ℕ → List ℕ
-rowLine k = decimal k ++ tab ∷ rowOf k (shippedText plain) ++ lineFeed ∷ [] ++ labelLine (rowOf k (shippedText plain))
+-- "its number, and its line of" the description
+unfoldable pub rowLine : List ℕ → ℕ → List ℕ
+rowLine text k = decimal k ++ tab ∷ rowOf k text ++ lineFeed ∷ [] ++ labelLine text (rowOf k text)
 
 -- a line for each row
-unfoldable pub rowLines : List ℕ → List ℕ
-rowLines [] = []
-rowLines (k ∷ ks) = rowLine k ++ rowLines ks
+unfoldable pub rowLines : List ℕ → List ℕ → List ℕ
+rowLines text [] = []
+rowLines text (k ∷ ks) = rowLine text k ++ rowLines text ks

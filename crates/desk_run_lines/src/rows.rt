@@ -5,18 +5,17 @@ use characters::TAB;
 use page::put_byte;
 use page::put_decimal;
 use page::put_text;
-use shipped_rows::DESCRIPTION_BYTES;
 use text_targets::Target;
 ghost use mathlib.Core.Path.{_≡_};
 ghost use Prim.Native.Nat.{_+_, _-_, _*_, _<_, _≤_};
 ghost use lib.ListN.{length, take};
 ghost use Rattle.word.specs.Choice.{pick};
 ghost use Rattle.page.specs.Written.{Written};
-ghost use Rattle.shipped_rows.specs.Variant.{plain};
+ghost use Rattle.text_limits.specs.Limits.{mostBytes};
 ghost use Rattle.shipped_rows.specs.Text.{shippedText};
+ghost use Rattle.desk_run_lines.specs.Registers.{variantOf};
 ghost use Rattle.desk_run_lines.specs.Rows.{rowOf, rowBelow, atLine, labelLine, rowLine, rowLines};
-ghost use Rattle.desk_run_lines.specs.Sizes.{rowLineBytes, Listed};
-ghost use Rattle.desk_run_lines.specs.Sizes.{pageBytes};
+ghost use Rattle.desk_run_lines.specs.Sizes.{pageBytes, rowLineBytes, Short, Listed};
 
 // The number before k, and 0 before 0.
 fn before(k: usize) -> usize
@@ -52,9 +51,9 @@ fn row_of(text: &[u8], k: usize) -> &[u8]
 }
 
 // The number of the first row below a label, 0 where the label isn't there.
-fn row_below(text: &[u8; DESCRIPTION_BYTES], label: &[u8]) -> u64
-    requires { ⌜ now text ≡ shippedText plain ⌝ }
-    ensures { λ r. ⌜ r ≡ rowBelow (now (label .entry)) (shippedText plain) ⌝ }
+fn row_below(text: &[u8], label: &[u8]) -> u64
+    requires { ⌜ length (now text) ≤ mostBytes ⌝ }
+    ensures { λ r. ⌜ r ≡ rowBelow (now (label .entry)) (now (text .entry)) ⌝ }
 {
     match text_targets::passes(label, text) {
         Target::Passes(above) => above as u64 + 1,
@@ -75,14 +74,9 @@ fn put_at(page: &mut [u8; PAGE_BYTES], at: usize, label: &[u8], row: u64) -> usi
 }
 
 // The line of the label that a row names, where it is a `go`.
-fn put_label(
-    page: &mut [u8; PAGE_BYTES],
-    at: usize,
-    text: &[u8; DESCRIPTION_BYTES],
-    line: &[u8],
-) -> usize
-    requires { ⌜ now text ≡ shippedText plain ⌝ ∗ ⌜ at + length (labelLine (now line)) ≤ pageBytes ⌝ }
-    ensures { λ r. ⌜ Written (labelLine (now (line .entry))) (now (page .entry)) at (now (page .exit)) r ⌝ }
+fn put_label(page: &mut [u8; PAGE_BYTES], at: usize, text: &[u8], line: &[u8]) -> usize
+    requires { ⌜ length (now text) ≤ mostBytes ⌝ ∗ ⌜ at + length (labelLine (now text) (now line)) ≤ pageBytes ⌝ }
+    ensures { λ r. ⌜ Written (labelLine (now (text .entry)) (now (line .entry))) (now (page .entry)) at (now (page .exit)) r ⌝ }
 {
     if characters::is_same(text_fields::field_of(line, 0), b"go") {
         let label = text_fields::field_of(line, 2);
@@ -94,9 +88,9 @@ fn put_label(
 }
 
 // The line of row k, and that of its label.
-fn put_row(page: &mut [u8; PAGE_BYTES], at: usize, text: &[u8; DESCRIPTION_BYTES], k: u8) -> usize
-    requires { ⌜ now text ≡ shippedText plain ⌝ ∗ ⌜ at + rowLineBytes ≤ pageBytes ⌝ }
-    ensures { λ r. ⌜ Written (rowLine k) (now (page .entry)) at (now (page .exit)) r ⌝ }
+fn put_row(page: &mut [u8; PAGE_BYTES], at: usize, text: &[u8], k: u8) -> usize
+    requires { ⌜ Short (now text) ⌝ ∗ ⌜ at + rowLineBytes ≤ pageBytes ⌝ }
+    ensures { λ r. ⌜ Written (rowLine (now (text .entry)) k) (now (page .entry)) at (now (page .exit)) r ⌝ }
 {
     let tab = put_decimal(page, at, k as u64);
     let start = put_byte(page, tab, TAB);
@@ -106,17 +100,41 @@ fn put_row(page: &mut [u8; PAGE_BYTES], at: usize, text: &[u8; DESCRIPTION_BYTES
     put_label(page, end, text, line)
 }
 
-// The lines of the first n rows of a list, and the room that they take.
-pub fn put_rows(page: &mut [u8; PAGE_BYTES], at: usize, rows: &[u8], n: usize) -> usize
-    requires { ⌜ n ≤ length (now rows) ⌝ ∗ ⌜ at + rowLineBytes * n ≤ pageBytes ⌝ }
-    ensures { λ r. ⌜ Listed (rowLines (take n (now (rows .entry)))) (now (page .entry)) at n (now (page .exit)) r ⌝ }
+// The lines of the first n rows of a list, by a description's text, and the room that they take.
+fn put_rows_of(
+    page: &mut [u8; PAGE_BYTES],
+    at: usize,
+    text: &[u8],
+    rows: &[u8],
+    n: usize,
+) -> usize
+    requires { ⌜ Short (now text) ⌝ ∗ ⌜ n ≤ length (now rows) ⌝ ∗ ⌜ at + rowLineBytes * n ≤ pageBytes ⌝ }
+    ensures { λ r. ⌜ Listed (rowLines (now (text .entry)) (take n (now (rows .entry)))) (now (page .entry)) at n (now (page .exit)) r ⌝ }
 {
-    let text = shipped_rows::shipped_text();
     let mut end = at;
     let mut i = 0;
     while i < n {
-        end = put_row(page, end, &text, rows[i]);
+        end = put_row(page, end, text, rows[i]);
         i += 1;
     }
     end
+}
+
+// The same by the shipped description of the machine with devices or without.
+pub fn put_rows(
+    page: &mut [u8; PAGE_BYTES],
+    at: usize,
+    devices: bool,
+    rows: &[u8],
+    n: usize,
+) -> usize
+    requires { ⌜ n ≤ length (now rows) ⌝ ∗ ⌜ at + rowLineBytes * n ≤ pageBytes ⌝ }
+    ensures { λ r. ⌜ Listed (rowLines (shippedText (variantOf devices)) (take n (now (rows .entry)))) (now (page .entry)) at n (now (page .exit)) r ⌝ }
+{
+    if devices {
+        let text = shipped_rows::twin::devices_text();
+        return put_rows_of(page, at, &text, rows, n);
+    }
+    let text = shipped_rows::shipped_text();
+    put_rows_of(page, at, &text, rows, n)
 }

@@ -7,8 +7,9 @@ use lib.ListN.{getD}
 use lib.Pow.{pow-mono}
 use borrow.Author.Tests.{ltb-true}
 use Rattle.machine_state.specs.State.{lacBits}
-use Rattle.machine_state.specs.Registers.{widths, digitsOf}
-use Rattle.machine_state.proofs.Places.{width-le, width-at}
+use Rattle.machine_state.specs.Registers.{digitsOf}
+use Rattle.desk_registers.specs.Registers.{deskWidths}
+use Rattle.desk_registers.proofs.Widths.{width-le, width-at}
 use Rattle.characters.specs.declared.Class.the-variants.{Octal}
 use Rattle.desk_entry.specs.Lines.{registerEntry}
 use Rattle.desk_image.proofs.Digits.{digits-size}
@@ -16,10 +17,10 @@ use Rattle.desk_entry.proofs.register_entry.Statement.{statement}
 use Rattle.desk_entry.proofs.register_entry.Tie as tie
 
 -- the table's width of the place, and its digits
-width : (c : tie.After-register-at) → c .register-at .result .width ≡ getD widths (c .before .before .args .place) 0
+width : (c : tie.After-register-at) → c .register-at .result .width ≡ getD deskWidths (c .before .before .args .place) 0
 width c = width-at (c .register-at .result) (c .before .before .args .place) (c .register-at .ensures)
 
-digits : (c : tie.After-digits-of) → c .digits-of .result ≡ digitsOf (getD widths (c .before .before .before .args .place) 0)
+digits : (c : tie.After-digits-of) → c .digits-of .result ≡ digitsOf (getD deskWidths (c .before .before .before .args .place) 0)
 digits c = c .digits-of .ensures ∙ ap digitsOf (width (c .before))
 
 register-at-requires : tie.Need-register-at-requires

@@ -1,4 +1,4 @@
--- `desk_last_lines::put_end_line`: the word goes by RUN.
+-- `desk_last_lines::put_end_line`: the word goes by RUN, then by the place.
 use borrow.Author.Needs.{needs}
 use borrow.Author.Tests.{eq-eqb, ne-eqb}
 use Rattle.page.proofs.Writing.{written-then}
@@ -27,6 +27,12 @@ slice-aggregate-put-text-3 c = search needs
 put-text-requires-3 : tie.Need-put-text-requires-3
 put-text-requires-3 c κs = search needs
 
+slice-aggregate-put-text-4 : tie.Need-slice-aggregate-put-text-4
+slice-aggregate-put-text-4 c = search needs
+
+put-text-requires-4 : tie.Need-put-text-requires-4
+put-text-requires-4 c κs = search needs
+
 same-length : tie.Need-same-length
 same-length c = search needs
 
@@ -43,11 +49,24 @@ same-length-2 c = search needs
 
 returns-2 : tie.Need-returns-2
 returns-2 c = let reason = c .before .before in
-    let test = reason .before .before .before in
+    let place = reason .before .before .before in
+    let test = place .before in
     let number = test .before .before .before in
     let title = number .before .before .before .before in
-    rw (end-line, ne-eqb _ _ (test .if1 .left))
+    rw (end-line, ne-eqb _ _ (test .if1 .left), place .if2 .taken)
     (written-then _ _ (written-then _ _ (title .put-text .ensures) (number .put-decimal .ensures)) (reason .put-text3 .ensures))
+
+same-length-3 : tie.Need-same-length-3
+same-length-3 c = search needs
+
+returns-3 : tie.Need-returns-3
+returns-3 c = let reason = c .before .before in
+    let place = reason .before .before .before in
+    let test = place .before in
+    let number = test .before .before .before in
+    let title = number .before .before .before .before in
+    rw (end-line, ne-eqb _ _ (test .if1 .left), place .if2 .left)
+    (written-then _ _ (written-then _ _ (title .put-text .ensures) (number .put-decimal .ensures)) (reason .put-text4 .ensures))
 
 pub put-end-line-spec : {M : Type 1} → statement M
 put-end-line-spec =
@@ -60,7 +79,11 @@ put-end-line-spec =
     put-text-requires-2
     slice-aggregate-put-text-3
     put-text-requires-3
+    slice-aggregate-put-text-4
+    put-text-requires-4
     same-length
     returns
     same-length-2
-    returns-2)
+    returns-2
+    same-length-3
+    returns-3)

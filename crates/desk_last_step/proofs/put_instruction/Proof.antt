@@ -25,7 +25,7 @@ put-byte-requires c κs = let name = c .before .before .before in
     let place = name .before .before .before .before in
     let start = place .before .before .before .before in
     let size = placed-size (ascii "last") (start .args .address) (start .args .word) in
-    omega (arith, name .put-mnemonic .ensures .place, mnemonic-size (start .args .word) (start .args .address), place .put-place .ensures .place, size, start .pre)
+    omega (arith, name .put-mnemonic .ensures .place, mnemonic-size (start .args .devices) (start .args .word) (start .args .address), place .put-place .ensures .place, size, start .pre)
 
 same-length : tie.Need-same-length
 same-length c = search needs

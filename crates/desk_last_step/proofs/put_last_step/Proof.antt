@@ -26,7 +26,7 @@ put-words-requires : tie.Need-put-words-requires
 put-words-requires c κs = let line = c .before .before .before in
     let start = line .before .before .before .before .before .before .before in
     let pc = start .args .pc in
-    (omega (arith, line .put-instruction .ensures .place, last-size pc (getD (start .args .before .now) pc 0), start .pre .0), start .pre .1 .1)
+    (omega (arith, line .put-instruction .ensures .place, last-size (start .args .devices) pc (getD (start .args .before .now) pc 0), start .pre .0), start .pre .1 .1)
 
 same-length : tie.Need-same-length
 same-length c = search needs

@@ -15,7 +15,7 @@ put-names-requires c κs = search needs
 put-operand-requires : tie.Need-put-operand-requires
 put-operand-requires c κs = let names = c .before .before .before .before in
     let start = names .before .before .before in
-    omega (arith, names .put-names .ensures .place, names-size (start .args .i), start .pre)
+    omega (arith, names .put-names .ensures .place, names-size (start .args .devices) (start .args .i), start .pre)
 
 same-length : tie.Need-same-length
 same-length c = search needs

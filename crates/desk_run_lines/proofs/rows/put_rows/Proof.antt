@@ -1,76 +1,61 @@
--- `desk_run_lines::rows::put_rows`: the rows read have been written.
+-- `desk_run_lines::rows::put_rows`: the text is the machine's.
 use borrow.Author.Needs.{needs}
-use mathlib.Core.Path.{_≡_}
 use native.Mathlib.Omega.{arith}
-use Prim.Native.Nat.{_+_, _-_, _*_, _≤_}
-use lib.ListN.{take, getD}
-use Rattle.page.specs.Written.{Written}
-use Rattle.page.proofs.Writing.{written-none, written-then}
+use mathlib.Core.Path.{_≡_, sym, ap, _∙_, subst}
+use mathlib.Core.Bool.{Bool}
+use mathlib.Core.List.{List}
+use Prim.Native.Nat.{ℕ}
+use lib.ListN.{take}
+use Rattle.shipped_rows.specs.Variant.{plain, devices}
+use Rattle.shipped_rows.specs.Text.{shippedText}
+use Rattle.desk_run_lines.specs.Registers.{variantOf}
 use Rattle.desk_run_lines.specs.Rows.{rowLines}
-use Rattle.desk_run_lines.specs.Sizes.{rowLineBytes}
-use Rattle.desk_run_lines.proofs.RowTexts.{row-line-size, rows-more}
+use Rattle.desk_run_lines.specs.Sizes.{Short, Listed}
+use Rattle.desk_run_lines.proofs.RowTexts.{shipped-short}
 use Rattle.desk_run_lines.proofs.rows.put_rows.Statement.{statement}
 use Rattle.desk_run_lines.proofs.rows.put_rows.Tie as tie
 
-abbrev Inv-loop : tie.InvT-loop
-Inv-loop page₀ at rows n text end₀ i₀ page end i = (i ≤ n) × (end ≤ at + rowLineBytes * i) × Written (rowLines (take i rows)) page₀ at page end
+devices-text-requires : tie.Need-devices-text-requires
+devices-text-requires c κs = search needs
 
-abbrev μ-loop : tie.MeasureT-loop
-μ-loop page₀ at rows n text end₀ i₀ page end i = n - i
+slice-aggregate-put-rows-of : tie.Need-slice-aggregate-put-rows-of
+slice-aggregate-put-rows-of c = search needs
 
-shipped-text-requires : tie.Need-shipped-text-requires Inv-loop μ-loop
+put-rows-of-requires : tie.Need-put-rows-of-requires
+put-rows-of-requires c κs = let start = c .before .before .before .before .before in
+    (subst Short (sym (c .before .before .devices-text .ensures)) (shipped-short devices), start .pre)
+
+returns : tie.Need-returns
+returns c = let text = c .before .before .before in
+    let start = text .before .before .before in
+    let is = text .devices-text .ensures ∙ sym (ap (λ (t : Bool). shippedText (variantOf t)) (text .before .if1 .taken)) in
+    rw is at (c .put-rows-of .ensures)
+
+shipped-text-requires : tie.Need-shipped-text-requires
 shipped-text-requires c κs = search needs
 
-loop-holds : tie.Need-loop-holds Inv-loop μ-loop
-unfolding rowLines
-loop-holds c = (omega arith, omega arith, written-none _ _)
+slice-aggregate-put-rows-of-2 : tie.Need-slice-aggregate-put-rows-of-2
+slice-aggregate-put-rows-of-2 c = search needs
 
-shared-slice-read-put-row : tie.Need-shared-slice-read-put-row Inv-loop μ-loop
-shared-slice-read-put-row c = let test = c .before .before .before in
-    let start = test .before .before .before .before in
-    omega (arith, test .loop-test .taken, start .pre .0)
+put-rows-of-requires-2 : tie.Need-put-rows-of-requires-2
+put-rows-of-requires-2 c κs = let start = c .before .before .before .before .before in
+    (subst Short (sym (c .before .before .shipped-text .ensures)) (shipped-short plain), start .pre)
 
-put-row-requires : tie.Need-put-row-requires Inv-loop μ-loop
-put-row-requires c κs = let test = c .before .before .before in
-    let head = test .before in
-    let text = head .before in
-    let start = text .before .before in
-    (text .shipped-text .ensures, omega (arith, head .loop .inv .1, test .loop-test .taken, start .pre .1))
-
-add-i : tie.Need-add-i Inv-loop μ-loop
-add-i c = search needs
-
-loop-less : tie.Need-loop-less Inv-loop μ-loop
-loop-less c = omega (arith, c .before .before .before .before .loop-test .taken)
-
-loop-again : tie.Need-loop-again Inv-loop μ-loop
-loop-again c = let test = c .before .before .before .before in
-    let at = test .before .loop in
-    let start = test .before .before .before .before in
-    let rows = start .args .rows .now in
-    let small = row-line-size (getD rows (at .i) 0) (omega (arith, c .before .shared-slice-known2 .given (at .i))) in
-    let more = rows-more rows (at .i) (omega (arith, test .loop-test .taken, start .pre .0)) in (
-      omega (arith, test .loop-test .taken),
-      omega (arith, at .inv .1, c .put-row .ensures .place),
-      rw more (written-then _ _ (at .inv .2) (c .put-row .ensures)),
-    )
-
-returns : tie.Need-returns Inv-loop μ-loop
-returns c = let at = c .before .loop in
-    let all : at .i ≡ c .before .before .before .before .args .n = omega (arith, at .inv .0, c .loop-test .left) in
-    record { written = rw all at (at .inv .2); room = omega (arith, at .inv .1) }
+returns-2 : tie.Need-returns-2
+returns-2 c = let text = c .before .before .before in
+    let start = text .before .before .before in
+    let is = text .shipped-text .ensures ∙ sym (ap (λ (t : Bool). shippedText (variantOf t)) (text .before .if1 .left)) in
+    rw is at (c .put-rows-of2 .ensures)
 
 pub put-rows-spec : {M : Type 1} → statement M
 put-rows-spec =
     tie.close
     (tie.spec
-    Inv-loop
-    μ-loop
+    devices-text-requires
+    slice-aggregate-put-rows-of
+    put-rows-of-requires
+    returns
     shipped-text-requires
-    loop-holds
-    shared-slice-read-put-row
-    put-row-requires
-    add-i
-    loop-less
-    loop-again
-    returns)
+    slice-aggregate-put-rows-of-2
+    put-rows-of-requires-2
+    returns-2)

@@ -2,8 +2,6 @@
 use borrow.Author.Needs.{needs}
 use mathlib.Core.Path.{sym, ap, _∙_}
 use native.Mathlib.Numerals.{add-one}
-use Rattle.text_fields.specs.Fields.{lines}
-use Rattle.text_targets.specs.Targets.{passes}
 use Rattle.desk_run_lines.specs.Rows.{rowAfter}
 use Rattle.desk_run_lines.proofs.rows.row_below.Statement.{statement}
 use Rattle.desk_run_lines.proofs.rows.row_below.Tie as tie
@@ -25,13 +23,11 @@ enum-told c = search needs
 
 returns : tie.Need-returns
 returns c = let count = c .before .before .before in
-    let start = count .before .before .before in
-    add-one _ ∙ ap rowAfter (sym (c .before .above .given .1) ∙ count .passes .ensures ∙ ap (λ t. passes (start .args .label .now) (lines t)) (start .pre))
+    add-one _ ∙ ap rowAfter (sym (c .before .above .given .1) ∙ count .passes .ensures)
 
 returns-2 : tie.Need-returns-2
 returns-2 c = let count = c .before .before in
-    let start = count .before .before .before in
-    ap rowAfter (sym (c .enum-told .given .1) ∙ count .passes .ensures ∙ ap (λ t. passes (start .args .label .now) (lines t)) (start .pre))
+    ap rowAfter (sym (c .enum-told .given .1) ∙ count .passes .ensures)
 
 pub row-below-spec : {M : Type 1} → statement M
 row-below-spec =

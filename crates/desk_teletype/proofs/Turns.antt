@@ -120,7 +120,7 @@ module _ (s : Sitting) (memory input output : List ℕ) where
           output = paper;
           left = rw is (omega arith);
           read = rw is turn-read;
-          printed = rw is (turn-printed (ap length (sym paper) ∙ kept));
+          printed = rw (is, kept) (turn-printed (ap length (sym paper) ∙ kept));
         }
 
     module _ (after : Machine) (why : Reason) (steps : ℕ) (t : e .answer ≡ Ran after why steps) where

@@ -55,4 +55,4 @@ pub record Turned (s : Sitting) (words input room : List ℕ) (r : Turn) (words�
   pub output : room′ ≡ outcome s words input room .exchange .output
   pub left : r .sitting .left ≤ s .left
   pub read : r .read ≤ length input
-  pub printed : r .printed ≤ length room
+  pub printed : r .printed ≤ length room′

@@ -40,13 +40,7 @@ fn put_printed(page: &mut [u8], at: usize, output: &[u8], n: usize) -> usize
 }
 
 // How many bytes of the input arrived, and the first `printed` bytes of the output.
-pub fn put_exchange(
-    page: &mut [u8],
-    at: usize,
-    read: usize,
-    output: &[u8],
-    printed: usize,
-) -> usize
+pub fn put_exchange(page: &mut [u8], at: usize, read: usize, output: &[u8], printed: usize) -> usize
     requires { ⌜ printed ≤ length (now output) ⌝ ∗ ⌜ at + readLineBytes + printedLineBytes + octetBytes * printed ≤ length (now page) ⌝ }
     ensures { λ r. ⌜ Written (exchangeLines read (take printed (now (output .entry)))) (now (page .entry)) at (now (page .exit)) r ⌝ }
 {

@@ -47,7 +47,16 @@ fn values_of(m: Machine, c: Devices) -> [u16; DESK_REGISTERS]
     ensures { λ r. ⌜ r ≡ values m ++ deviceValues c ⌝ }
 {
     [
-        m.lac, m.pc, m.run, m.enable, m.request, m.switches, c.key, c.keyboard, c.printer, c.print,
+        m.lac,
+        m.pc,
+        m.run,
+        m.enable,
+        m.request,
+        m.switches,
+        c.key,
+        c.keyboard,
+        c.printer,
+        c.print,
         c.mark,
     ]
 }

@@ -101,13 +101,7 @@ fn put_row(page: &mut [u8; PAGE_BYTES], at: usize, text: &[u8], k: u8) -> usize
 }
 
 // The lines of the first n rows of a list, by a description's text, and the room that they take.
-fn put_rows_of(
-    page: &mut [u8; PAGE_BYTES],
-    at: usize,
-    text: &[u8],
-    rows: &[u8],
-    n: usize,
-) -> usize
+fn put_rows_of(page: &mut [u8; PAGE_BYTES], at: usize, text: &[u8], rows: &[u8], n: usize) -> usize
     requires { ⌜ Short (now text) ⌝ ∗ ⌜ n ≤ length (now rows) ⌝ ∗ ⌜ at + rowLineBytes * n ≤ pageBytes ⌝ }
     ensures { λ r. ⌜ Listed (rowLines (now (text .entry)) (take n (now (rows .entry)))) (now (page .entry)) at n (now (page .exit)) r ⌝ }
 {

@@ -44,7 +44,7 @@ loop-again c = let at = c .before .before .loop in
       omega (arith, c .before .loop-test .taken),
       length-set (at .bytes) (at .k) _ ∙ at .inv .1,
       ap (λ (b : ℕ). take (at .k + 1) (set (at .bytes) (at .k) b)) (c .octet-at .ensures)
-      ∙ octets-more s (at .k) (at .bytes) (omega (arith, c .before .loop-test .taken, start .pre .few, at .inv .1)) (at .inv .2),
+          ∙ octets-more s (at .k) (at .bytes) (omega (arith, c .before .loop-test .taken, start .pre .few, at .inv .1)) (at .inv .2),
     )
 
 returns : tie.Need-returns Inv-loop μ-loop

@@ -137,15 +137,7 @@ fn run_to_last(
     ensures { λ r. ⌜ emulator.report m r (now (memory .exit)) ≡ emulation (variantOf devices) m c (now (memory .entry)) (steps - 1) (now (input .entry)) paper .report ⌝ }
 {
     let mut output = [0u8; PAPER_PLACES];
-    let r = run_steps(
-        memory,
-        devices,
-        m,
-        c,
-        fewer(steps),
-        input,
-        &mut output,
-    );
+    let r = run_steps(memory, devices, m, c, fewer(steps), input, &mut output);
     r.answer
 }
 
@@ -252,7 +244,18 @@ fn answered(
             let mut third = *memory;
             let earlier = run_to_last(&mut third, devices, m, c, steps, input);
             let pc = pc_in(m, earlier);
-            put_answer(page, devices, e, &output, pc, &third, &first, places, &list, n)
+            put_answer(
+                page,
+                devices,
+                e,
+                &output,
+                pc,
+                &third,
+                &first,
+                places,
+                &list,
+                n,
+            )
         }
     }
 }

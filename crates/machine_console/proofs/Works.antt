@@ -6,13 +6,12 @@ use Prim.Native.Nat.{ℕ, _+_, _-_, _^_, _≤_, _<_}
 use native.Mathlib.Omega.{arith}
 use borrow.Author.Tests.{le-leb, lt-leb}
 use Rattle.word.specs.Choice.{pick}
-use Rattle.word.specs.Word.{wordBits}
 use Rattle.word.proofs.Choice.{case-true, case-false, pick-either}
 use Rattle.runs.specs.Run.{Ended, ended}
 use Rattle.devices.specs.declared.Devices.{Devices}
 use Rattle.devices.specs.Devices.{DevicesFit}
 use Rattle.devices.proofs.Starts.{fit-flags}
-use Rattle.machine_state.specs.State.{State, Good, word, withRequest}
+use Rattle.machine_state.specs.State.{State, lacBits, Good, word, withRequest}
 use Rattle.machine_state.proofs.Keeps.{request-good}
 use Rattle.machine_run.specs.Step.{makesTest}
 use Rattle.machine_run.specs.Stretch.{isPaused, unpaused, Ready, stretchFrom}
@@ -58,17 +57,17 @@ module _ (s : State) (c : Devices) (done budget i : ℕ) (b : Bool) (flags reque
     unfolding worked
     went = ap (taken c) (stretched ∙ stretch-of)
 
-    pub work-paused : (z : Console) → 2 ^ wordBits ≤ y .pc → z ≡ deviceStep (console (unpaused y) c) → ended n z ≡ worked (budget - done) done (console s c)
+    pub work-paused : (z : Console) → 2 ^ lacBits ≤ y .lac → z ≡ deviceStep (console (unpaused y) c) → ended n z ≡ worked (budget - done) done (console s c)
     unfolding resumed
     work-paused z e d =
-        ap (ended n) (d ∙ sym (case-true (isPaused y) (deviceStep (console (unpaused y) c)) (console y c) (le-leb (2 ^ wordBits) (y .pc) e))) ∙ went
+        ap (ended n) (d ∙ sym (case-true (isPaused y) (deviceStep (console (unpaused y) c)) (console y c) (le-leb (2 ^ lacBits) (y .lac) e))) ∙ went
 
-    pub work-going : y .pc < 2 ^ wordBits → ended n (console y c) ≡ worked (budget - done) done (console s c)
+    pub work-going : y .lac < 2 ^ lacBits → ended n (console y c) ≡ worked (budget - done) done (console s c)
     unfolding resumed
     work-going e =
-        ap (ended n) (sym (case-false (isPaused y) (deviceStep (console (unpaused y) c)) (console y c) (lt-leb (2 ^ wordBits) (y .pc) e))) ∙ went
+        ap (ended n) (sym (case-false (isPaused y) (deviceStep (console (unpaused y) c)) (console y c) (lt-leb (2 ^ lacBits) (y .lac) e))) ∙ went
 
-    pub work-resumes : Good s → DevicesFit c → done < budget → 2 ^ wordBits ≤ y .pc → Good (unpaused y)
+    pub work-resumes : Good s → DevicesFit c → done < budget → 2 ^ lacBits ≤ y .lac → Good (unpaused y)
     work-resumes g f h e =
-        paused-good (le-leb (2 ^ wordBits) (y .pc) e)
+        paused-good (le-leb (2 ^ lacBits) (y .lac) e)
         (subst (λ (t : Ended State). Ready (t .left)) (sym stretched) (stretch-ready true (end - done) done (withRequest request s) (work-begins g f h .0)))

@@ -62,8 +62,8 @@ pub fn work(memory: &mut [u16], p: Processor, c: Devices, steps: u64, budget: u6
     q.request = choose_if(tests, line(c), p.request);
     let t = stretch(memory, q, steps, choose_if(tests, budget, steps + 1), true);
     let mut r = t.processor;
-    if r.pc >= PAUSED {
-        r.pc -= PAUSED;
+    if r.lac >= PAUSED {
+        r.lac -= PAUSED;
         r.run = 1;
         let x = device_word(memory, r, c);
         let s = x.processor;

@@ -10,13 +10,12 @@ use lib.ListN.{length}
 use borrow.Author.Tests.{le-leb, lt-leb}
 use Rattle.laws.proofs.Tests.{by-test, by-case, not-so}
 use Rattle.word.specs.Choice.{on, pick}
-use Rattle.word.specs.Word.{wordBits}
 use Rattle.word.proofs.Choice.{case-true, case-false, pick-either}
 use Rattle.state.specs.Limits.{memoryWords}
 use Rattle.runs.specs.Run.{Ended, ended, runFrom}
 use Rattle.runs.proofs.Runs.{keeps-from}
 use Rattle.runs.proofs.Alike.{same-runs}
-use Rattle.machine_state.specs.State.{State, Good, word, withPc, withRun}
+use Rattle.machine_state.specs.State.{State, lacBits, Good, word, withLac, withRun}
 use Rattle.machine_state.specs.Instruction.{isDevice}
 use Rattle.machine_state.proofs.Keeps.{run-good}
 use Rattle.machine_run.specs.Step.{step}
@@ -27,17 +26,17 @@ use Rattle.machine_run.proofs.Keeps.{step-good}
 -- ---- a pause and its end
 
 pub good-unpaused : {s : State} → Good s → isPaused s ≡ false
-good-unpaused {s} g = lt-leb (2 ^ wordBits) (s .pc) (g .pc)
+good-unpaused {s} g = lt-leb (2 ^ lacBits) (s .lac) (g .lac)
 
 pub paused-is : (s : State) → isPaused (pausedAt (s .pc) s) ≡ true
-paused-is s = le-leb (2 ^ wordBits) (s .pc + 2 ^ wordBits) (omega arith)
+paused-is s = le-leb (2 ^ lacBits) (s .lac + 2 ^ lacBits) (omega arith)
 
-back : (n : ℕ) → n + 2 ^ wordBits - 2 ^ wordBits ≡ n
+back : (n : ℕ) → n + 2 ^ lacBits - 2 ^ lacBits ≡ n
 back n = omega arith
 
--- a pause leaves everything but RUN and PC, and its end gives them back
+-- a pause leaves everything but RUN and LAC, and its end gives them back
 pub paused-back : (s : State) → unpaused (pausedAt (s .pc) s) ≡ withRun 1 s
-paused-back s = ap (λ (n : ℕ). withPc n (withRun 1 s)) (back (s .pc))
+paused-back s = ap (λ (n : ℕ). withLac n (withRun 1 s)) (back (s .lac))
 
 -- ---- what a stretch leaves
 

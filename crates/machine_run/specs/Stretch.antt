@@ -5,24 +5,23 @@ use mathlib.Core.Bool.{Bool, true, not, _&&_}
 use Prim.Native.Nat.{ℕ, _+_, _-_, _^_}
 use lib.Dec.{eqb, leb}
 use Rattle.word.specs.Choice.{pick}
-use Rattle.word.specs.Word.{wordBits}
 use Rattle.runs.specs.Run.{Ended, runFrom}
-use Rattle.machine_state.specs.State.{State, Good, word, withPc, withRun}
+use Rattle.machine_state.specs.State.{State, lacBits, Good, word, withLac, withPc, withRun}
 use Rattle.machine_state.specs.Instruction.{isDevice}
 use Rattle.machine_state.specs.Interrupt.{interruptTest, testedIf, ion, inputOutput}
 use Rattle.machine_run.specs.Step.{step}
 use Rattle.machine_run.specs.Run.{running}
 
--- a machine that is paused: RUN is 0, so that the loop ends, and PC as far past the word as memory is long
+-- a machine that is paused before the word at pc: RUN is 0, so that the loop ends, and LAC is past its width
 abbrev pub pausedAt : ℕ → State → State
-pausedAt pc s = withPc (pc + 2 ^ wordBits) (withRun 0 s)
+pausedAt pc s = withPc pc (withLac (s .lac + 2 ^ lacBits) (withRun 0 s))
 
 abbrev pub isPaused : State → Bool
-isPaused s = leb (2 ^ wordBits) (s .pc)
+isPaused s = leb (2 ^ lacBits) (s .lac)
 
 -- and the machine that was
 abbrev pub unpaused : State → State
-unpaused s = withPc (s .pc - 2 ^ wordBits) (withRun 1 s)
+unpaused s = withLac (s .lac - 2 ^ lacBits) (withRun 1 s)
 
 -- op 6 of the word i that was fetched from `last`, and the step's interrupt test; a pause gives the word back
 unfoldable pub inputOutputOr : Bool → ℕ → ℕ → State → State

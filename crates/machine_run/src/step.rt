@@ -9,13 +9,13 @@ ghost use mathlib.Core.Path.{_≡_};
 ghost use Prim.Native.Nat.{_^_, _<_};
 ghost use lib.ListN.{length};
 ghost use Rattle.word.specs.Word.{wordBits};
-ghost use Rattle.machine_state.specs.State.{Good};
+ghost use Rattle.machine_state.specs.State.{lacBits, Good};
 ghost use Rattle.machine_state.specs.Instruction.{isDevice};
 ghost use Rattle.machine_state.specs.Processor.{at};
 ghost use Rattle.machine_run.specs.Stretch.{inputOutputOr, advance};
 
-// What a paused machine's PC has more than the address of the device's word before which it paused; its RUN is 0.
-pub const PAUSED: u64 = word::WORD_VALUES;
+// What a paused machine's LAC has more than it had; its PC is the address of the device's word before which it paused, its RUN is 0.
+pub const PAUSED: u64 = machine_state::LAC_VALUES;
 
 // Whether a word is one of device 03 or 04.
 fn is_device(i: u64) -> bool
@@ -26,12 +26,13 @@ fn is_device(i: u64) -> bool
 
 // Op 6 of a word that was fetched from `last`. With devices a word of theirs is given back, and the machine is paused.
 fn input_output_or(memory: &mut [u16], p: Processor, i: u64, last: u64, devices: bool) -> Processor
-    requires { ⌜ 0 < length (now memory) ⌝ ∗ ⌜ p .pc < 2 ^ wordBits ⌝ ∗ ⌜ p .enable < 2 ⌝ ∗ ⌜ p .request < 2 ⌝ ∗ ⌜ last < 2 ^ wordBits ⌝ }
+    requires { ⌜ 0 < length (now memory) ⌝ ∗ ⌜ p .lac < 2 ^ lacBits ⌝ ∗ ⌜ p .pc < 2 ^ wordBits ⌝ ∗ ⌜ p .enable < 2 ⌝ ∗ ⌜ p .request < 2 ⌝ }
     ensures { λ r. ⌜ at r (now (memory .exit)) ≡ inputOutputOr devices i last (at p (now (memory .entry))) ⌝ }
 {
     if devices & is_device(i) {
         let mut q = p;
-        q.pc = last + PAUSED;
+        q.pc = last;
+        q.lac = p.lac + PAUSED;
         q.run = 0;
         return q;
     }

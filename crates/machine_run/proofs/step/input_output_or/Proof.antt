@@ -12,7 +12,7 @@ add-q c = search needs
 
 returns : tie.Need-returns
 unfolding inputOutputOr
-returns c = simp (← c .before .is-device .ensures, c .if1 .taken)
+returns c = simp (← c .before .before .is-device .ensures, c .before .if1 .taken)
 
 input-output-requires : tie.Need-input-output-requires
 input-output-requires c κs = search needs

@@ -3,6 +3,5 @@ pub mod Tables
 pub mod TableRuns
 pub mod Fitting
 mod Turns
-mod Stretches
 mod Courses
 mod Begins

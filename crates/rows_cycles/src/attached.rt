@@ -6,10 +6,9 @@ use rows_store::Registers;
 use text_limits::MOST_REGISTERS;
 ghost use mathlib.Core.Path.{_≡_};
 ghost use mathlib.Core.Bool.{true, not, _||_};
-ghost use Prim.Native.Nat.{_+_, _%_, _≤_, _<_};
+ghost use Prim.Native.Nat.{_%_, _≤_, _<_};
 ghost use lib.Dec.{ltb};
 ghost use lib.ListN.{length, getD};
-ghost use Rattle.word.specs.Choice.{pick};
 ghost use Rattle.text_limits.specs.Limits.{mostRegisters};
 ghost use Rattle.devices.specs.Held.{PrintedBy};
 ghost use Rattle.rows_cycles.specs.Stored.{devicesIn, withDevicesIn, narrowed, markedBy, Begins};
@@ -86,14 +85,6 @@ pub fn begin_cycle(
         registers: Registers { values: after },
         read: now,
     }
-}
-
-// How many cycles may be done before the next start: one more with devices, else all.
-pub fn limit_of(devices: bool, done: u64, budget: u64) -> u64
-    requires { ⌜ done < budget ⌝ }
-    ensures { λ n. ⌜ n ≡ pick devices (done + 1) budget ⌝ }
-{
-    if devices { done + 1 } else { budget }
 }
 
 // Devices of which PRINT.BYTE is a byte.

@@ -1,9 +1,9 @@
--- `rows_cycles::run::run`: with devices cycle by cycle, else at once.
+-- `rows_cycles::run::run`: cycle by cycle.
 use mathlib.Core.Path.{refl}
 use mathlib.Core.Logic.{inl, inr}
 use Prim.Native.Nat.{_-_}
 use native.Mathlib.Omega.{arith}
-use Rattle.rows_cycles.proofs.Courses.{Going, going-start, limit-above, room-here, going-next, going-spent, going-ended}
+use Rattle.rows_cycles.proofs.Courses.{Going, going-start, room-here, going-next, going-spent, going-ended}
 use borrow.Author.Needs.{needs}
 use Rattle.rows_cycles.proofs.run.run.Statement.{statement}
 use Rattle.rows_cycles.proofs.run.run.Tie as tie
@@ -32,40 +32,38 @@ begin-cycle-requires : tie.Need-begin-cycle-requires Inv-loop μ-loop
 begin-cycle-requires c κs =
     c .before .before .before .before .before .loop .inv .arrived
 
-limit-of-requires : tie.Need-limit-of-requires Inv-loop μ-loop
-limit-of-requires c κs =
-    c .before .before .before .before .before .before .loop-test .taken
-
-stretch-requires : tie.Need-stretch-requires Inv-loop μ-loop
-stretch-requires c κs =
-    let t = c .before .before .before .before .before .before .before .before .before in
-    let at = t .before in
-    let b = at .before .before .before .before in
-    let p = b .pre in
-    (p .0, (at .loop .inv .size, (at .loop .inv .long, (p .1 .1 .1, limit-above (b .args .devices) _ _ _ (c .before .before .limit-of .ensures) (t .loop-test .taken)))))
+cycle-requires : tie.Need-cycle-requires Inv-loop μ-loop
+cycle-requires c κs =
+    let at = c .before .before .before .before .before .before .before .before in
+    let p = at .before .before .before .before .pre in
+    (p .0, (at .loop .inv .size, (at .loop .inv .long, p .1 .1 .1)))
 
 end-cycle-requires : tie.Need-end-cycle-requires Inv-loop μ-loop
 end-cycle-requires c κs =
-    let i = c .before .before .before .before .before .before .before .before .before .before .before in
+    let i = c .before .before .before .before .before .before .before .before .before in
     let v = i .before .before in
     room-here _ _ _ _ _ _ _ _ _ _ _ _ _ _ _ _ _ (v .before .before .before .loop .inv) (v .value-at .result) (i .before .has-room .result)
     (v .value-at .ensures) (i .before .has-room .ensures) (i .if1 .left)
 
+add-done : tie.Need-add-done Inv-loop μ-loop
+add-done c =
+    let b = c .before .before .before .before .before .before .before .before .before .before .before .before .before .before .before .before in
+    omega (arith, b .loop-test .taken, b .before .before .before .before .before .fits)
+
 loop-less : tie.Need-loop-less Inv-loop μ-loop
 loop-less c =
-    let t = c .before .before .before .before .before .before .before .before in
-    omega (arith, t .stretch .ensures .more, t .before .before .before .before .before .before .before .before .before .before .loop-test .taken)
+    omega (arith, c .before .before .before .before .before .before .before .before .before .before .before .before .before .before .before .before .loop-test .taken)
 
 loop-again : tie.Need-loop-again Inv-loop μ-loop
 loop-again c =
     let e = c .before .before in
     let r = e .before .before .before .before .before .before in
-    let b = r .before .before .before .before .before in
+    let b = r .before .before .before in
     let v = b .before .before .before in
     let t = v .before .before in
     going-next _ _ _ _ _ _ _ _ _ _ _ _ _ _ _ _ _ (t .before .loop .inv) (v .value-at .result) (b .before .before .has-room .result)
-    (v .value-at .ensures) (b .before .before .has-room .ensures) _ _ _ (r .stretch .result) _ _ _ _ (t .loop-test .taken) (b .before .if1 .left)
-    (b .begin-cycle .ensures) (r .before .before .before .limit-of .ensures) (r .stretch .ensures) (e .end-cycle .ensures)
+    (v .value-at .ensures) (b .before .before .has-room .ensures) _ _ _ _ _ _ _ _ (t .loop-test .taken) (b .before .if1 .left)
+    (b .begin-cycle .ensures) (r .cycle .ensures) (e .end-cycle .ensures)
 
 has-room-requires-2 : tie.Need-has-room-requires-2 Inv-loop μ-loop
 has-room-requires-2 c κs = search needs
@@ -111,9 +109,9 @@ run-spec =
     value-at-requires
     has-room-requires
     begin-cycle-requires
-    limit-of-requires
-    stretch-requires
+    cycle-requires
     end-cycle-requires
+    add-done
     loop-less
     loop-again
     has-room-requires-2

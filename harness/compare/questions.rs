@@ -87,9 +87,6 @@ fn devices(random: &mut Random) -> Vec<String> {
         let bytes: Vec<String> = (0..count).map(|_| format!("{:03o}", random.bits(8))).collect();
         lines.push(format!("input\t{}\n", bytes.join(" ")));
     }
-    if random.once_in(16) {
-        lines.push(format!("input\t{}\n", vec!["101"; 65].join(" ")));
-    }
     lines
 }
 
@@ -155,6 +152,10 @@ fn lines_of_question(random: &mut Random) -> Vec<String> {
     if random.once_in(3) {
         lines.extend(device_code(random, from));
         lines.extend(devices(random));
+        if random.once_in(16) {
+            // a byte too many
+            lines.push(format!("input\t{}\n", vec!["101"; 65].join(" ")));
+        }
     }
     if random.once_in(2) {
         let turned = random.below(lines.len() + 1);

@@ -34,7 +34,7 @@ install: all
 	install -d '$(bin)' '$(include)' '$(lib)/pkgconfig' '$(libexec)' '$(share)'
 	install -m 644 $(library) '$(lib)'
 	install -m 644 include/guavachisel.h '$(include)'
-	install -m 644 description/pdp8.rows '$(share)'
+	install -m 644 description/pdp8.rows description/pdp8-devices.rows '$(share)'
 	install -m 755 programs/front programs/teletype-front $(programs) '$(libexec)'
 	sed 's|@PREFIX@|$(PREFIX)|; s|@VERSION@|$(version)|' include/guavachisel.pc.in >'$(lib)/pkgconfig/guavachisel.pc'
 	for program in listing explain teletype; do \
@@ -48,7 +48,7 @@ install: all
 # Other folders stay, also empty ones.
 uninstall:
 	rm -f '$(bin)/guavachisel-listing' '$(bin)/guavachisel-explain' '$(bin)/guavachisel-teletype' '$(include)/guavachisel.h' '$(lib)/libguavachisel.a' '$(lib)/pkgconfig/guavachisel.pc'
-	rm -f '$(libexec)/front' '$(libexec)/teletype-front' '$(libexec)/listing' '$(libexec)/explain' '$(libexec)/teletype' '$(share)/pdp8.rows'
+	rm -f '$(libexec)/front' '$(libexec)/teletype-front' '$(libexec)/listing' '$(libexec)/explain' '$(libexec)/teletype' '$(share)/pdp8.rows' '$(share)/pdp8-devices.rows'
 	for folder in '$(libexec)' '$(share)'; do [ ! -d "$$folder" ] || rmdir "$$folder" || exit 1; done
 
 # Two rt at once are in each other's way.

@@ -2,217 +2,239 @@
 -- last step.
 -- Assumes nothing.
 use mathlib.Core.Path.{_≡_, refl, sym, ap, _∙_, subst}
-use mathlib.Core.List.{List, [], _++_}
-use Prim.Native.Nat.{ℕ, zero, suc, _+_, _-_, _≤_}
+use mathlib.Core.Bool.{Bool, true, false}
+use mathlib.Core.List.{List, [], _∷_, _++_, map}
+use Prim.Native.Nat.{ℕ, _+_, _-_, _≤_, _<_}
 use native.Mathlib.Omega.{arith}
-use lib.Dec.{lit<}
-use lib.ListN.{length, take, drop, replicate, length-append}
+use lib.ListN.{length, take, drop, length-append}
+use lib.Dec.{ltb}
 use lib.Seq.{take-append-seam}
-use Rattle.state.specs.Limits.{budgetLimit, rowPlaces}
-use Rattle.state.specs.Refusals.{reasonOf}
-use Rattle.state.specs.Checks.{checkState}
+use borrow.Author.Tests.{ltb-true}
+use Rattle.laws.proofs.Joined.{and-right}
+use Rattle.word.specs.Choice.{on, pick}
+use Rattle.characters.specs.Named.{Named}
+use Rattle.state.specs.Limits.{rowPlaces}
+use Rattle.state.specs.Refusals.{numberOf}
 use Rattle.state.specs.declared.Reason.{Reason}
 use Rattle.state.specs.declared.Refusal.{Refusal}
 use Rattle.state.specs.declared.Verdict.{Verdict}
 use Rattle.state.specs.declared.Verdict.the-variants.{Fit, Unfit}
-use Rattle.state.proofs.Accepted.{state-sound, zeros}
+use Rattle.state.proofs.Accepted.{state-sound, sound-state}
 use Rattle.state.proofs.Numbers.{numbered}
+use Rattle.devices.specs.declared.Devices.{Devices}
+use Rattle.devices.specs.Devices.{printedAfter}
+use Rattle.devices.specs.Held.{Bytes}
+use Rattle.devices.specs.Session as session
+use Rattle.devices.specs.Session.{Session, goesOn, opened}
+use Rattle.runs.proofs.Runs.{keeps-from}
 use Rattle.machine_state.specs.declared.Machine.{Machine}
-use Rattle.machine_state.specs.State.{State, Good, start, registers}
-use Rattle.machine_state.specs.Registers.{machineRegisters, widths, values}
-use Rattle.runs.specs.Run.{Ended, runFrom}
-use Rattle.runs.proofs.Counts.{steps-within, last-step, no-step}
-use Rattle.machine_run.specs.Step.{step}
-use Rattle.machine_run.specs.Run.{running, run}
-use Rattle.machine_run.proofs.Runs.{run-good}
+use Rattle.machine_state.specs.State.{start}
+use Rattle.machine_console.specs.Console as consoles
+use Rattle.machine_console.specs.Console.{Console, console, turn}
 use Rattle.emulator.specs.Emulate as emulator
-use Rattle.emulator.specs.Emulate.{emulate}
-use Rattle.emulator.proofs.Starts.{checked-good}
+use Rattle.emulator.specs.Emulate.{emulate, emulateDevices}
 use Rattle.emulator.specs.declared.Answer.{Answer}
+use Rattle.emulator.specs.declared.DeviceAnswer.{DeviceAnswer}
 use Rattle.emulator.specs.declared.Answer.the-variants as emulated
 use Rattle.evaluator.specs.Evaluate as evaluator
-use Rattle.evaluator.specs.Evaluate.{evaluate}
 use Rattle.evaluator.specs.declared.Outcome.{Outcome}
 use Rattle.evaluator.specs.declared.Outcome.the-variants.{Ran, Unread, Refused}
-use Rattle.desk_last_lines.specs.LastLines.{endLine}
-use Rattle.rows_cycles.specs.Run as cycles
-use Rattle.shipped_rows.specs.Variant.{plain}
-use Rattle.shipped_rows.specs.Text.{shippedText}
-use Rattle.shipped_rows.specs.Shipped.{shipped}
-use Rattle.shipped_rows.proofs.Places as places
-use Rattle.shipped_rows.proofs.Places.{Work}
-use Rattle.shipped.specs.Claim.{Claim, cyclesOf}
-use Rattle.shipped.proofs.Starts.{every-start}
-use Rattle.shipped.proofs.Agree.{runs-agree}
-use Rattle.desk_last_step.specs.LastStep.{changeLines, lastStep}
-use Rattle.desk_last_step.specs.Sizes.{changeLinesBytes}
-use Rattle.desk_last_step.proofs.Changes.{unchanged}
-use Rattle.desk_last_step.proofs.Few.{step-few}
-use Rattle.desk_run_lines.specs.Registers.{registerLines, workingRegisters, workingValues}
-use Rattle.desk_run_lines.specs.Rows.{rowLines}
-use Rattle.desk_explanation.specs.Explanation.{placesOf, told, beforeLast, explained}
-use Rattle.desk_explanation.specs.Answered.{checkedBy, answered, LastStep, pcIn, listedIn}
-
--- the bytes that tell of a run: the registers after it, its steps, PC and memory before the last and memory after it, the registers of the rows and those that acted
-abbrev text : Machine → ℕ → ℕ → List ℕ → List ℕ → List ℕ → List ℕ → List ℕ
-text after steps pc before memory places rows =
-    endLine steps (reasonOf (after .run))
-    ++ lastStep steps pc before memory
-    ++ registerLines machineRegisters (values after)
-    ++ registerLines workingRegisters (workingValues places)
-    ++ rowLines rows
+use Rattle.rows_cycles.specs.Cycle.{Cycle}
+use Rattle.shipped_rows.specs.Variant.{registersOf, valuesOf}
+use Rattle.shipped.specs.Claim.{Claim, emulation, evaluation, bySteps, byCycles}
+use Rattle.desk_run_lines.specs.Registers.{variantOf}
+use Rattle.desk_explanation.specs.declared.Ending.{Ending}
+use Rattle.desk_explanation.specs.Explanation.{paperPlaces, paper, placesOf, told, ranOf, beforeLast, cycleOf, explained}
+use Rattle.desk_explanation.specs.Answered.{checkedBy, checkOf, answered, endedBy, LastStep, pcIn, listedIn}
+use Rattle.desk_explanation.proofs.Starts.{checked-claim}
+use Rattle.desk_explanation.proofs.LastStep.{last-holds, steps-few}
 
 -- what is answered after a run, in the terms of the engines' answers
-pub record Told (m : Machine) (memory : List ℕ) (budget : ℕ) (after : Machine) (steps pc : ℕ) (before mem places : List ℕ) (listed : ℕ) (rows : List ℕ) : Type 0 where
+pub record Told (d : Bool) (m : Machine) (c : Devices) (memory : List ℕ) (budget : ℕ) (input : List ℕ) (a : emulator.DeviceReport) (pc : ℕ) (before places : List ℕ) (listed : ℕ)
+    (rows : List ℕ) : Type 0 where
   pub few : listed ≤ length rows
-  pub last : LastStep pc before mem
-  pub is : answered m memory budget ≡ text after steps pc before mem places (take listed rows)
+  pub printed : a .exchange .printed ≤ paperPlaces
+  pub last : LastStep pc before (a .report .memory)
+  pub is : answered d m c memory budget input ≡ told d a pc before places (take listed rows)
 
--- a good state is a start of the claim at every budget, with 0 in the working registers
-abbrev no-work : Work
-no-work = record { i = 0; last = 0; eadd = 0; skip = 0; rest = replicate 6 0 }
+-- the emulator refuses what the check finds unfit
+unfit-refuses : (d : Bool) (m : Machine) (c : Devices) (memory : List ℕ) (budget : ℕ) (input : List ℕ) (w : Refusal) → checkOf d m c memory budget ≡ Unfit w
+    → emulation (variantOf d) m c memory budget input paper .report .number ≡ numberOf w
+unfolding emulate emulateDevices
+unfit-refuses false m c memory budget input w e =
+    let refused : emulate m memory budget ≡ emulator.refused w m memory = rw (e, emulate) in
+    ap (λ (r : emulator.Report). r .number) refused
+unfit-refuses true m c memory budget input w e =
+    let refused : emulateDevices m c memory budget input paper ≡ emulator.refusedDevices w m c memory paper = rw (e, emulateDevices) in
+    ap (λ (r : emulator.DeviceReport). r .report .number) refused
 
-no-work-fits : places.Fit no-work
-no-work-fits = record { i = lit< tt; last = lit< tt; eadd = lit< tt; skip = lit< tt; rest = λ k. omega (arith, zeros 6 k) }
+-- a run reports no refusal
+no-refusal : (d : Bool) (m : Machine) (c : Devices) (memory : List ℕ) (budget : ℕ) (input : List ℕ) → ranOf d m c memory budget input .report .number ≡ 0
+no-refusal false m c memory budget input = refl
+no-refusal true m c memory budget input = refl
 
-claim-for : (m : Machine) (memory : List ℕ) (n : ℕ) (list : List ℕ) → rowPlaces ≤ length list → Good (start m memory) → n ≤ budgetLimit
-    → Claim plain m (placesOf m) memory n list
-claim-for m memory n list room g h =
-    runs-agree plain m (placesOf m) memory n list (every-start plain m memory no-work n list g no-work-fits refl h room)
+-- no more is printed than the paper has places: a step that prints found one
+after-print : (c : Devices) (l : List ℕ) → length l < paperPlaces → length (printedAfter c l) ≤ paperPlaces
+unfolding printedAfter
+after-print c l h = go (on (c .mark))
+  where
+    go : (t : Bool) → length (pick t (l ++ c .print ∷ []) l) ≤ paperPlaces
+    go true = omega (arith, length-append l (c .print ∷ []))
+    go false = omega arith
 
-module _ (m : Machine) (memory : List ℕ) (budget : ℕ) where
-  checked : (v : Verdict) → checkState widths (values m) memory budget ≡ v → answered m memory budget ≡ checkedBy v m memory budget
+turn-printed : (x : Session Console) → goesOn consoles.running paperPlaces x ≡ true → length (turn x .printed) ≤ paperPlaces
+unfolding session.turn
+turn-printed x e =
+    after-print _ (x .printed) (ltb-true (length (x .printed)) paperPlaces (and-right (consoles.running (x .engine)) (ltb (length (x .printed)) paperPlaces) e))
+
+printed-within : (d : Bool) (m : Machine) (c : Devices) (memory : List ℕ) (budget : ℕ) (input : List ℕ) → ranOf d m c memory budget input .exchange .printed ≤ paperPlaces
+printed-within false m c memory budget input = omega arith
+printed-within true m c memory budget input =
+    keeps-from (goesOn consoles.running paperPlaces) turn (λ (y : Session Console). length (y .printed) ≤ paperPlaces) (λ y e h. turn-printed y e) budget 0
+    (opened (console (start m memory) c) input) (omega arith)
+
+-- what the run of the rows reports of its last cycle
+module _ (d : Bool) (m : Machine) (c : Devices) (memory : List ℕ) (budget : ℕ) (list input : List ℕ) where
+  abbrev cycles : evaluator.Report
+  cycles = byCycles (variantOf d) (record { registers = placesOf d m c; memory = memory }) budget list input paper .report
+
+  abbrev last : Cycle
+  last = cycleOf d m c memory budget input
+
+record Cycled (d : Bool) (m : Machine) (c : Devices) (memory : List ℕ) (budget : ℕ) (list input : List ℕ) : Type 0 where
+  registers : cycles d m c memory budget list input .registers ≡ last d m c memory budget list input .state .registers
+  listed : cycles d m c memory budget list input .listed ≡ length (last d m c memory budget list input .acted)
+  list-is : let acted = last d m c memory budget list input .acted in cycles d m c memory budget list input .list ≡ acted ++ drop (length acted) list
+
+cycled : (d : Bool) (m : Machine) (c : Devices) (memory : List ℕ) (budget : ℕ) (list input : List ℕ) → Cycled d m c memory budget list input
+cycled true m c memory budget list input = record { registers = refl; listed = refl; list-is = refl }
+cycled false m c memory budget list input = record { registers = refl; listed = refl; list-is = refl }
+
+module _ (d : Bool) (m : Machine) (c : Devices) (memory : List ℕ) (budget : ℕ) (input : List ℕ) where
+  checked : (v : Verdict) → checkOf d m c memory budget ≡ v → answered d m c memory budget input ≡ checkedBy v (explained d m c memory budget input)
   unfolding answered
-  checked v e = ap (λ (u : Verdict). checkedBy u m memory budget) e
+  checked v e = ap (λ (u : Verdict). checkedBy u (explained d m c memory budget input)) e
 
-  -- the emulator refuses what the check finds unfit
-  unfit-refuses : (w : Refusal) → checkState widths (values m) memory budget ≡ Unfit w → emulate m memory budget ≡ emulator.refused w m memory
-  unfolding emulate
-  unfit-refuses w e = rw (e, emulate)
-
-  abbrev ended : Ended State
-  ended = run budget (start m memory)
-
-  abbrev early : State
-  early = beforeLast m memory (ended .steps)
+  -- what passes passes with a smaller budget
+  fewer-fits : (n : ℕ) → n ≤ budget → checkOf d m c memory budget ≡ Fit → checkOf d m c memory n ≡ Fit
+  fewer-fits n h e =
+      let widths = map (λ (r : Named). r .number) (registersOf (variantOf d)) in
+      let values = valuesOf (variantOf d) m c in
+      let sound = state-sound widths values memory budget e in
+      sound-state widths values memory n (sound .0) (sound .1) (omega (arith, sound .2, h))
 
   -- the explanation of a start by its two runs
-  explained-is : explained m memory budget
-      ≡ text (registers (ended .left)) (ended .steps) (early .pc) (early .memory) (ended .left .memory)
-      (cyclesOf plain (placesOf m) memory budget .left .state .registers) (cyclesOf plain (placesOf m) memory budget .left .acted)
-  unfolding explained told
+  explained-is : let r = ranOf d m c memory budget input in
+      let before = beforeLast d m c memory (r .report .steps) input in
+      let cycle = cycleOf d m c memory budget input in
+      explained d m c memory budget input ≡ told d r (before .machine .pc) (before .memory) (cycle .state .registers) (cycle .acted)
+  unfolding explained
   explained-is = refl
 
-  -- the lines of the words that the last step changed
-  few-changes : (n : ℕ) → ended .steps ≡ n → length (changeLines 0 (early .memory) (ended .left .memory)) ≤ changeLinesBytes
-  unfolding runFrom
-  few-changes zero h =
-      let none : ended .steps - 1 ≡ 0 = omega arith in
-      subst (λ (k : ℕ). length (changeLines 0 (run k (start m memory) .left .memory) (ended .left .memory)) ≤ changeLinesBytes) (sym none)
-      (subst (λ (s : State). length (changeLines 0 memory (s .memory)) ≤ changeLinesBytes) (sym (no-step running step budget (start m memory) h))
-      (omega (arith, unchanged 0 memory)))
-  few-changes (suc n) h =
-      let one : ended .steps - 1 ≡ n = omega arith in
-      subst (λ (k : ℕ). length (changeLines 0 (run k (start m memory) .left .memory) (ended .left .memory)) ≤ changeLinesBytes) (sym one)
-      (subst (λ (s : State). length (changeLines 0 (run n (start m memory) .left .memory) (s .memory)) ≤ changeLinesBytes)
-      (sym (last-step running step budget n (start m memory) h)) (step-few (run n (start m memory) .left)))
+  module _ (list : List ℕ) (room : rowPlaces ≤ length list) where
+    -- where the emulator refuses, nothing is written
+    refused-is : (a : emulator.DeviceReport) → (a .report .number ≡ 0 → ⊥) → a ≡ emulation (variantOf d) m c memory budget input paper → answered d m c memory budget input ≡ []
+    refused-is a h p = go (checkOf d m c memory budget) refl
+      where
+        go : (v : Verdict) → checkOf d m c memory budget ≡ v → answered d m c memory budget input ≡ []
+        go Fit e =
+            let claim = checked-claim d m c memory budget e list input paper room in
+            absurd (h (ap (λ (r : emulator.DeviceReport). r .report .number) (p ∙ claim .emulated) ∙ no-refusal d m c memory budget input))
+        go (Unfit w) e = checked (Unfit w) e
 
-  last-holds : Good (start m memory) → LastStep (early .pc) (early .memory) (ended .left .memory)
-  last-holds g =
-      let earlier = run-good (ended .steps - 1) g in
-      let later = run-good budget g in
-      record {
-        inside = omega (arith, earlier .pc, earlier .memory .size);
-        whole = later .memory .size ∙ sym (earlier .memory .size);
-        few = few-changes (ended .steps) refl;
-      }
+    module _ (bytes : Bytes input) (a : emulator.DeviceReport) (x : emulator.Report) (b : evaluator.Report)
+        (p : a ≡ emulation (variantOf d) m c memory budget input paper)
+        (o : x ≡ emulation (variantOf d) m c memory (a .report .steps - 1) input paper .report)
+        (q : b ≡ evaluation (variantOf d) (placesOf d m c) memory budget list input paper .report) where
+      -- the answers of both engines, and of the emulator at one step fewer, where the check finds the state fit
+      fit-told : checkOf d m c memory budget ≡ Fit → Told d m c memory budget input a (x .machine .pc) (x .memory) (b .registers) (b .listed) (b .list)
+      fit-told e =
+          let claim = checked-claim d m c memory budget e list input paper room in
+          let r : emulator.DeviceReport = ranOf d m c memory budget input in
+          let early : emulator.Report = beforeLast d m c memory (r .report .steps) input in
+          let cycle : Cycle = cycleOf d m c memory budget input in
+          let same : a ≡ r = p ∙ claim .emulated in
+          let made : a .report .steps ≡ r .report .steps = ap (λ (y : emulator.DeviceReport). y .report .steps) same in
+          let lower = fewer-fits (a .report .steps - 1) (omega (arith, made, steps-few d m c memory budget input)) e in
+          let before : x ≡ early =
+          o ∙ ap (λ (y : emulator.DeviceReport). y .report) (checked-claim d m c memory (a .report .steps - 1) lower list input paper room .emulated)
+          ∙ ap (λ (n : ℕ). ranOf d m c memory (n - 1) input .report) made in
+          let listed : b ≡ cycles d m c memory budget list input = q ∙ ap (λ (y : evaluator.DeviceReport). y .report) (claim .evaluated) in
+          let ends = cycled d m c memory budget list input in
+          let registers : b .registers ≡ cycle .state .registers = ap (λ (y : evaluator.Report). y .registers) listed ∙ ends .registers in
+          let count : b .listed ≡ length (cycle .acted) = ap (λ (y : evaluator.Report). y .listed) listed ∙ ends .listed in
+          let whole : b .list ≡ cycle .acted ++ drop (length (cycle .acted)) list = ap (λ (y : evaluator.Report). y .list) listed ∙ ends .list-is in
+          let rows : take (b .listed) (b .list) ≡ cycle .acted =
+          ap (λ (n : ℕ). take n (b .list)) count ∙ ap (take (length (cycle .acted))) whole ∙ take-append-seam (cycle .acted) (drop (length (cycle .acted)) list) in
+          let size : length (b .list) ≡ length (cycle .acted) + length (drop (length (cycle .acted)) list) =
+          ap (length {A = ℕ}) whole ∙ length-append (cycle .acted) (drop (length (cycle .acted)) list) in
+          record {
+            few = omega (arith, count, size);
+            printed = subst (λ (y : emulator.DeviceReport). y .exchange .printed ≤ paperPlaces) (sym same) (printed-within d m c memory budget input);
+            last =
+                subst (λ (y : emulator.Report). LastStep (y .machine .pc) (y .memory) (a .report .memory)) (sym before)
+                (subst (λ (y : emulator.DeviceReport). LastStep (early .machine .pc) (early .memory) (y .report .memory)) (sym same) (last-holds d m c memory budget input bytes e));
+            is = checked Fit e ∙ explained-is
+                ∙ sym (ap (λ (y : emulator.DeviceReport). told d y (x .machine .pc) (x .memory) (b .registers) (take (b .listed) (b .list))) same
+                ∙ ap (λ (y : emulator.Report). told d r (y .machine .pc) (y .memory) (b .registers) (take (b .listed) (b .list))) before
+                ∙ ap (λ (l : List ℕ). told d r (early .machine .pc) (early .memory) l (take (b .listed) (b .list))) registers
+                ∙ ap (told d r (early .machine .pc) (early .memory) (cycle .state .registers)) rows);
+          }
 
-module _ (m : Machine) (memory : List ℕ) (budget : ℕ) (list : List ℕ) (room : rowPlaces ≤ length list) where
-  -- where the emulator refuses, nothing is written
-  refused-is : (why : Refusal) (after : List ℕ) → emulator.refused why m after ≡ emulate m memory budget → answered m memory budget ≡ []
-  refused-is why after p = go (checkState widths (values m) memory budget) refl
-    where
-      go : (v : Verdict) → checkState widths (values m) memory budget ≡ v → answered m memory budget ≡ []
-      go Fit e =
-          let good = checked-good m memory budget e in
-          let claim = claim-for m memory budget list room good (state-sound widths (values m) memory budget e .2) in
-          absurd (numbered why (ap (λ (r : emulator.Report). r .number) (p ∙ claim .emulated)))
-      go (Unfit w) e = checked m memory budget (Unfit w) e
+      -- where the emulator ran, the check found the state fit
+      ran-is : a .report .number ≡ 0 → Told d m c memory budget input a (x .machine .pc) (x .memory) (b .registers) (b .listed) (b .list)
+      ran-is none = go (checkOf d m c memory budget) refl
+        where
+          go : (v : Verdict) → checkOf d m c memory budget ≡ v → Told d m c memory budget input a (x .machine .pc) (x .memory) (b .registers) (b .listed) (b .list)
+          go Fit e = fit-told e
+          go (Unfit w) e =
+              absurd (numbered w (sym (unfit-refuses d m c memory budget input w e) ∙ sym (ap (λ (y : emulator.DeviceReport). y .report .number) p) ∙ none))
 
-  -- the answers of both engines, and of the emulator at one step fewer, where the check finds the state fit
-  fit-told : (after : Machine) (why : Reason) (steps : ℕ) (mem : List ℕ) (x : emulator.Report) (b : evaluator.Report) → checkState widths (values m) memory budget ≡ Fit
-      → emulator.ran after why steps mem ≡ emulate m memory budget → x ≡ emulate m memory (steps - 1) → b ≡ evaluate (shippedText plain) (placesOf m) memory budget list
-      → Told m memory budget after steps (x .machine .pc) (x .memory) mem (b .registers) (b .listed) (b .list)
-  fit-told after why steps mem x b e p o q =
-      let good = checked-good m memory budget e in
-      let within = state-sound widths (values m) memory budget e .2 in
-      let claim = claim-for m memory budget list room good within in
-      let s = start m memory in
-      let r = run budget s in
-      let c = cyclesOf plain (placesOf m) memory budget in
-      let acted = c .left .acted in
-      let same : emulator.ran after why steps mem ≡ emulator.finished r = p ∙ claim .emulated in
-      let made : steps ≡ r .steps = ap (λ (y : emulator.Report). y .steps) same in
-      let small : steps - 1 ≤ budgetLimit = omega (arith, steps-within running step budget s, within) in
-      let last : x ≡ emulator.finished (run (r .steps - 1) s) =
-      o ∙ claim-for m memory (steps - 1) list room good small .emulated ∙ ap (λ (n : ℕ). emulator.finished (run (n - 1) s)) made in
-      let listed : b ≡ evaluator.finished (cycles.running (shipped plain)) c list = q ∙ claim .evaluated in
-      let rows : take (b .listed) (b .list) ≡ acted =
-      ap (λ (y : evaluator.Report). take (y .listed) (y .list)) listed ∙ take-append-seam acted (drop (length acted) list) in
-      let size : length (b .list) ≡ length acted + length (drop (length acted) list) =
-      ap (λ (y : evaluator.Report). length (y .list)) listed ∙ length-append acted (drop (length acted) list) in
-      let count : b .listed ≡ length acted = ap (λ (y : evaluator.Report). y .listed) listed in
-      record {
-        few = omega arith;
-        last =
-            subst (λ (y : emulator.Report). LastStep (y .machine .pc) (y .memory) mem) (sym last)
-            (subst (λ (y : emulator.Report). LastStep (early m memory budget .pc) (early m memory budget .memory) (y .memory)) (sym same) (last-holds m memory budget good));
-        is = checked m memory budget Fit e ∙ explained-is m memory budget
-            ∙ sym (ap (λ (y : emulator.Report). text (y .machine) (y .steps) (x .machine .pc) (x .memory) (y .memory) (b .registers) (take (b .listed) (b .list))) same
-            ∙ ap (λ (y : emulator.Report). text (registers (r .left)) (r .steps) (y .machine .pc) (y .memory) (r .left .memory) (b .registers) (take (b .listed) (b .list))) last
-            ∙ ap (λ (y : evaluator.Report). text (registers (r .left)) (r .steps) (early m memory budget .pc) (early m memory budget .memory) (r .left .memory) (y .registers)
-            (take (b .listed) (b .list))) listed
-            ∙ ap (text (registers (r .left)) (r .steps) (early m memory budget .pc) (early m memory budget .memory) (r .left .memory) (c .left .state .registers)) rows);
-      }
-
-  -- where the emulator ran, the check found the state fit
-  ran-is : (after : Machine) (why : Reason) (steps : ℕ) (mem : List ℕ) (x : emulator.Report) (b : evaluator.Report)
-      → emulator.ran after why steps mem ≡ emulate m memory budget → x ≡ emulate m memory (steps - 1) → b ≡ evaluate (shippedText plain) (placesOf m) memory budget list
-      → Told m memory budget after steps (x .machine .pc) (x .memory) mem (b .registers) (b .listed) (b .list)
-  ran-is after why steps mem x b p o q = go (checkState widths (values m) memory budget) refl
-    where
-      go : (v : Verdict) → checkState widths (values m) memory budget ≡ v
-          → Told m memory budget after steps (x .machine .pc) (x .memory) mem (b .registers) (b .listed) (b .list)
-      go Fit e = fit-told after why steps mem x b e p o q
-      go (Unfit w) e = absurd (numbered w (sym (ap (λ (y : emulator.Report). y .number) (p ∙ unfit-refuses m memory budget w e))))
-
--- the same in the terms of the evaluator's own answer, and of the emulator's at one step fewer
-module _ (m : Machine) (memory : List ℕ) (budget : ℕ) (after : Machine) (steps : ℕ) (mem : List ℕ) where
-  by-outcome : (pc : ℕ) (before : List ℕ) (o : Outcome) (places second rows : List ℕ)
-      → Told m memory budget after steps pc before mem
+  -- the same in the terms of the evaluator's own answer, and of the emulator's at one step fewer
+  by-outcome : (a : emulator.DeviceReport) (pc : ℕ) (before : List ℕ) (o : Outcome) (places second rows : List ℕ)
+      → Told d m c memory budget input a pc before
       (evaluator.outcomeOf o places second rows .registers) (evaluator.outcomeOf o places second rows .listed) (evaluator.outcomeOf o places second rows .list)
-      → Told m memory budget after steps pc before mem places (listedIn o) rows
-  by-outcome pc before (Ran why n k) places second rows t = t
-  by-outcome pc before (Unread fault line) places second rows t = t
-  by-outcome pc before (Refused why) places second rows t = t
+      → Told d m c memory budget input a pc before places (listedIn o) rows
+  by-outcome a pc before (Ran why n k) places second rows t = t
+  by-outcome a pc before (Unread fault line) places second rows t = t
+  by-outcome a pc before (Refused why) places second rows t = t
 
-  by-answer : (a : Answer) (before places : List ℕ) (listed : ℕ) (rows : List ℕ)
-      → Told m memory budget after steps (emulator.report m a before .machine .pc) (emulator.report m a before .memory) mem places listed rows
-      → Told m memory budget after steps (pcIn m a) before mem places listed rows
-  by-answer (emulated.Ran x why n) before places listed rows t = t
-  by-answer (emulated.Refused why) before places listed rows t = t
+  by-answer : (a : emulator.DeviceReport) (e : Answer) (before places : List ℕ) (listed : ℕ) (rows : List ℕ)
+      → Told d m c memory budget input a (emulator.report m e before .machine .pc) (emulator.report m e before .memory) places listed rows
+      → Told d m c memory budget input a (pcIn m e) before places listed rows
+  by-answer a (emulated.Ran x why n) before places listed rows t = t
+  by-answer a (emulated.Refused why) before places listed rows t = t
+
+  -- number and reason are not told
+  by-ending : (e : Ending) (why : Reason) (mem out : List ℕ) (pc : ℕ) (before places : List ℕ) (listed : ℕ) (rows : List ℕ)
+      → Told d m c memory budget input
+      (record { report = emulator.ran (e .machine) why (e .steps) mem; devices = e .devices; exchange = record { read = e .read; printed = e .printed; output = out } })
+      pc before places listed rows
+      → Told d m c memory budget input (endedBy e mem out) pc before places listed rows
+  unfolding told
+  by-ending e why mem out pc before places listed rows t = record { few = t .few; printed = t .printed; last = t .last; is = t .is }
 
 -- and of the emulator's: what `answered` has to know
-module _ (m : Machine) (memory : List ℕ) (budget : ℕ) (list : List ℕ) (room : rowPlaces ≤ length list) (e : Answer) (mem : List ℕ)
-    (p : emulator.report m e mem ≡ emulate m memory budget) where
-  pub refused-by : (why : Refusal) → e ≡ emulated.Refused why → answered m memory budget ≡ []
-  refused-by why q = refused-is m memory budget list room why mem (sym (ap (λ (x : Answer). emulator.report m x mem) q) ∙ p)
+module _ (d : Bool) (m : Machine) (c : Devices) (memory : List ℕ) (budget : ℕ) (input list : List ℕ) (room : rowPlaces ≤ length list) (r : DeviceAnswer) (mem out : List ℕ)
+    (p : emulator.deviceReport m r mem out ≡ emulation (variantOf d) m c memory budget input paper) where
+  -- with an answer put in
+  abbrev with : Answer → emulator.DeviceReport
+  with y = record { report = emulator.report m y mem; devices = r .devices; exchange = record { read = r .read; printed = r .printed; output = out } }
 
-  pub ran-by : (after : Machine) (why : Reason) (steps : ℕ) (o : Outcome) (places second rows : List ℕ) (a : Answer) (before : List ℕ) → e ≡ emulated.Ran after why steps
-      → evaluator.outcomeOf o places second rows ≡ evaluate (shippedText plain) (placesOf m) memory budget list → emulator.report m a before ≡ emulate m memory (steps - 1)
-      → Told m memory budget after steps (pcIn m a) before mem places (listedIn o) rows
-  ran-by after why steps o places second rows a before q r x =
-      let ran = sym (ap (λ (y : Answer). emulator.report m y mem) q) ∙ p in
-      by-outcome m memory budget after steps mem (pcIn m a) before o places second rows
-      (by-answer m memory budget after steps mem a before _ _ _
-      (ran-is m memory budget list room after why steps mem (emulator.report m a before) (evaluator.outcomeOf o places second rows) ran x r))
+  abbrev ending : Machine → ℕ → Ending
+  ending after steps = record { steps = steps; machine = after; devices = r .devices; read = r .read; printed = r .printed }
+
+  pub refused-by : (why : Refusal) → r .answer ≡ emulated.Refused why → answered d m c memory budget input ≡ []
+  refused-by why q = refused-is d m c memory budget input list room (with (emulated.Refused why)) (numbered why) (sym (ap with q) ∙ p)
+
+  pub ran-by : Bytes input → (after : Machine) (why : Reason) (steps : ℕ) (o : Outcome) (places second rows : List ℕ) (a : Answer) (before : List ℕ)
+      → r .answer ≡ emulated.Ran after why steps
+      → evaluator.outcomeOf o places second rows ≡ evaluation (variantOf d) (placesOf d m c) memory budget list input paper .report
+      → emulator.report m a before ≡ emulation (variantOf d) m c memory (steps - 1) input paper .report
+      → Told d m c memory budget input (endedBy (ending after steps) mem out) (pcIn m a) before places (listedIn o) rows
+  ran-by bytes after why steps o places second rows a before q s x =
+      let ran = with (emulated.Ran after why steps) in
+      by-ending d m c memory budget input (ending after steps) why mem out (pcIn m a) before places (listedIn o) rows
+      (by-outcome d m c memory budget input ran (pcIn m a) before o places second rows
+      (by-answer d m c memory budget input ran a before _ _ _
+      (ran-is d m c memory budget input list room bytes ran (emulator.report m a before) (evaluator.outcomeOf o places second rows) (sym (ap with q) ∙ p) x s refl)))

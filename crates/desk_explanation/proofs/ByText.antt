@@ -1,12 +1,18 @@
 -- The explanation of what a scanner keeps: the ways that it goes, and that after a text it is the text's explanation.
 -- Assumes nothing.
 use mathlib.Core.Path.{_≡_, refl, sym, ap, _∙_}
+use mathlib.Core.Bool.{Bool, true, false}
 use mathlib.Core.List.{List}
-use Prim.Native.Nat.{ℕ}
+use Prim.Native.Nat.{ℕ, _+_, _^_, _<_}
+use lib.ListN.{length, getD, drop}
+use lib.Seq.{getD-drop}
 use Rattle.state.specs.declared.Verdict.{Verdict}
+use Rattle.state.specs.declared.Verdict.the-variants.{Fit}
+use Rattle.devices.specs.Devices.{DevicesFit}
 use Rattle.machine_state.specs.State.{start, Good}
-use Rattle.machine_state.specs.Registers.{machineOf}
-use Rattle.emulator.proofs.Starts.{good-checked}
+use Rattle.machine_state.specs.Registers.{machineRegisters, machineOf}
+use Rattle.desk_registers.specs.Registers.{deskWidths}
+use Rattle.emulator.proofs.Starts.{good-checked, fit-checked}
 use Rattle.desk_last_lines.specs.LastLines.{refusedLine, orRefused}
 use Rattle.desk_last_lines.proofs.Refused.{is-refused, same-unrefused}
 use Rattle.desk_image.specs.Pass.{Countable}
@@ -16,8 +22,8 @@ use Rattle.desk_inquiry.specs.Input.{Inquiry, asked}
 use Rattle.desk_inquiry.specs.Scan.{asking}
 use Rattle.desk_inquiry.proofs.WordLine.{bounded-asking}
 use Rattle.desk_inquiry.proofs.Sound.{Sound, reached-sound}
-use Rattle.desk_explanation.specs.Explanation.{answerTo, explanation}
-use Rattle.desk_explanation.specs.Answered.{checkedBy, answered, reply, scanExplanation}
+use Rattle.desk_explanation.specs.Explanation.{devicesIn, answerTo, explanation}
+use Rattle.desk_explanation.specs.Answered.{checkedBy, checkOf, answered, reply, scanExplanation}
 
 -- n is the first unfit line, or 0
 module _ (s : Scan Inquiry) (n : ℕ) (u : n ≡ unfitLine s) where
@@ -29,15 +35,30 @@ module _ (s : Scan Inquiry) (n : ℕ) (u : n ≡ unfitLine s) where
   unfolding scanExplanation
   print-answered h = ap (λ (k : ℕ). orRefused k (reply (s .made))) (sym u ∙ h)
 
--- no check turns a sound inquiry down
+-- no check turns a sound inquiry down: registers that fit are those of a good state, and of devices that fit
+sound-checked : (d : Bool) (q : Inquiry) → Sound q → checkOf d (machineOf (q .registers)) (devicesIn (q .registers)) (q .memory) (q .budget) ≡ Fit
+sound-checked d q s = go d
+  where
+    narrow : (k : ℕ) → getD (q .registers) k 0 < 2 ^ getD deskWidths k 0
+    narrow = s .registers .narrow
+
+    good : Good (start (machineOf (q .registers)) (q .memory))
+    good = record { lac = narrow 0; pc = narrow 1; run = narrow 2; enable = narrow 3; request = narrow 4; switches = narrow 5; memory = s .memory }
+
+    at : (k : ℕ) → getD (drop (length machineRegisters) (q .registers)) k 0 < 2 ^ getD deskWidths (6 + k) 0
+    at k = rw (getD-drop (length machineRegisters) (q .registers) k 0) (narrow (6 + k))
+
+    fit : DevicesFit (devicesIn (q .registers))
+    fit = record { key = at 0; keyboard = at 1; printer = at 2; print = at 3; mark = at 4 }
+
+    go : (t : Bool) → checkOf t (machineOf (q .registers)) (devicesIn (q .registers)) (q .memory) (q .budget) ≡ Fit
+    go false = good-checked (machineOf (q .registers)) (q .memory) (q .budget) good (s .budget)
+    go true = fit-checked (machineOf (q .registers)) (devicesIn (q .registers)) (q .memory) (q .budget) good fit (s .budget)
+
 sound-answered : (q : Inquiry) → Sound q → reply q ≡ answerTo q
 unfolding answered
 sound-answered q d =
-    let m = machineOf (q .registers) in
-    let fit = d .registers .narrow in
-    let good : Good (start m (q .memory)) =
-    record { lac = fit 0; pc = fit 1; run = fit 2; enable = fit 3; request = fit 4; switches = fit 5; memory = d .memory } in
-    ap (λ (v : Verdict). checkedBy v m (q .memory) (q .budget)) (good-checked m (q .memory) (q .budget) good (d .budget))
+    ap (λ (v : Verdict). checkedBy v (answerTo q)) (sound-checked (q .devices) q d)
 
 -- after a text: refused by its first unfit line, else answered as its lines ask
 pub scan-explanation : (text : List ℕ) → Countable text → scanExplanation (scanOf asking text) ≡ explanation text

@@ -1,11 +1,13 @@
 -- The explanation of (L); and that an image alone is run as for its day listing, so that its explanation begins with the listing's last line.
 -- Assumes nothing.
 use mathlib.Core.Path.{_≡_, refl, ap}
-use mathlib.Core.List.{List, _++_}
-use Prim.Native.Nat.{ℕ}
+use mathlib.Core.Bool.{false}
+use mathlib.Core.List.{List, [], _++_}
+use Prim.Native.Nat.{ℕ, _-_}
 use lib.ListN.{length, drop}
 use Rattle.state.specs.Refusals.{reasonOf}
 use Rattle.machine_state.specs.Interrupt.{interruptTest}
+use Rattle.devices.specs.declared.Devices.{Devices}
 use Rattle.machine_state.specs.declared.Machine.{Machine}
 use Rattle.machine_state.specs.State.{start, registers}
 use Rattle.machine_state.specs.Registers.{machineRegisters, machineOf, values}
@@ -39,7 +41,7 @@ use Rattle.desk_mnemonics.specs.Mnemonics.{names, namesOf, spaced, mnemonic}
 use Rattle.desk_last_step.specs.LastStep.{lastLine, wordLine, changeLines, lastStep}
 use Rattle.desk_run_lines.specs.Registers.{registerLines, workingValues}
 use Rattle.desk_run_lines.specs.Rows.{rowTexts, atLine, labelLine, rowLine, rowLines}
-use Rattle.desk_explanation.specs.Explanation.{placesOf, told, beforeLast, explained, explanation}
+use Rattle.desk_explanation.specs.Explanation.{placesOf, told, explained, devicesIn, explanation}
 
 -- what no line gives is as for the day listing: the state of each memory, and the budget
 pub starts-as-listed : (memory : List ℕ) → start (machineOf (ready .registers)) memory ≡ listing.ready memory
@@ -51,20 +53,21 @@ unfolding ready
 budget-as-listed = refl
 
 -- what is said of a start by the cycles of a description's rows; by those of the shipped one's tree
-abbrev toldBy : Machine → List ℕ → ℕ → Description → List ℕ
-toldBy m memory budget d =
+abbrev toldBy : Machine → Devices → List ℕ → ℕ → Description → List ℕ
+toldBy m c memory budget t =
     let r = steps.run budget (start m memory) in
-    let before = beforeLast m memory (r .steps) in
-    let c = cycles.run d budget (record { registers = placesOf m; memory = memory }) in
+    let before = steps.run (r .steps - 1) (start m memory) .left in
+    let last = cycles.run t budget (record { registers = placesOf false m c; memory = memory }) .left in
     endLine (r .steps) (reasonOf (r .left .run))
-    ++ lastStep (r .steps) (before .pc) (before .memory) (r .left .memory)
+    ++ []
+    ++ lastStep false (r .steps) (before .pc) (before .memory) (r .left .memory)
     ++ registerLines machineRegisters (values (registers (r .left)))
-    ++ registerLines (drop (length machineRegisters) (d .registers)) (workingValues (c .left .state .registers))
-    ++ rowLines (c .left .acted)
+    ++ registerLines (drop (length machineRegisters) (t .registers)) (workingValues plain (last .state .registers))
+    ++ rowLines (shippedText plain) (last .acted)
 
-by-tree : (m : Machine) (memory : List ℕ) (budget : ℕ) → explained m memory budget ≡ toldBy m memory budget (tree plain)
+by-tree : (m : Machine) (c : Devices) (memory : List ℕ) (budget : ℕ) (input : List ℕ) → explained false m c memory budget input ≡ toldBy m c memory budget (tree plain)
 unfolding told explained
-by-tree m memory budget = ap (toldBy m memory budget) (shipped-is plain)
+by-tree m c memory budget input = ap (toldBy m c memory budget) (shipped-is plain)
 
 -- (L)
 abbrev input : List ℕ
@@ -76,4 +79,4 @@ pub day : explanation input
     ++ ascii "1\tdo\t1\ti\tM[PC]\n2\tdo\t1\tlast.pc\tPC\n3\tdo\t1\tPC\tPC + 1\n5\tgo\ti<0:2> Eql #7\topr\nat\topr\t35\n35\tgo\ti<3>\tgroup.2\nat\tgroup.2\t48\n"
     ++ ascii "49\tdo\t1\tskip\t0\n54\tgo\t1\tdecided\nat\tdecided\t59\n62\tdo\ti<10>\tRUN\t0\n63\tgo\ti<10>\trestart\nat\trestart\t71\n"
 unfolding interruptTest makesTest halts clearsRun firstAddress indexed effective afterIndexing operation reference changed rotated skips group1 group2 operate execute stepWith runFrom octal decimalIn decimal endLine clear bytes.run same numberAt lines field hasFields find cycleFrom shippedText wordEntry registerEntry budgetEntry said entry ready entered afterLines firstUnfit names namesOf spaced mnemonic lastLine wordLine changeLines lastStep passes rowTexts atLine labelLine rowLine rowLines explanation
-day = let q = asked input in by-tree (machineOf (q .registers)) (q .memory) (q .budget)
+day = let q = asked input in by-tree (machineOf (q .registers)) (devicesIn (q .registers)) (q .memory) (q .budget) (q .input)

@@ -2,7 +2,7 @@
 -- the line that the listing ends with. What follows that line does not matter here.
 -- Assumes nothing.
 use mathlib.Core.Path.{_≡_, refl, sym, ap, _∙_}
-use mathlib.Core.Bool.{true}
+use mathlib.Core.Bool.{true, false}
 use mathlib.Core.List.{List, [], _∷_, _++_, append-assoc, append-nil}
 use Prim.Native.Nat.{ℕ, zero, suc, _/_, _%_}
 use native.Mathlib.Omega.{arith}
@@ -12,10 +12,11 @@ use Rattle.laws.proofs.Tests.{by-test}
 use Rattle.word.specs.Choice.{on}
 use Rattle.state.specs.Refusals.{reasonOf}
 use Rattle.state.specs.declared.Reason.{Reason}
-use Rattle.state.specs.declared.Reason.the-variants.{Halted, Spent}
+use Rattle.state.specs.declared.Reason.the-variants.{Halted, Spent, Paper}
 use Rattle.characters.specs.Ascii.{ascii, tab, lineFeed, digit}
 use Rattle.page.specs.Text.{octal, decimalIn, decimal}
 use Rattle.desk_image.proofs.Cut.{clean, clean-append, cut-first, Whole, whole-none, whole-append, whole-feed}
+use Rattle.devices.specs.declared.Devices.{Devices}
 use Rattle.machine_state.specs.declared.Machine.{Machine}
 use Rattle.machine_state.specs.State.{State, word, start}
 use Rattle.machine_state.specs.Registers.{machineOf}
@@ -28,7 +29,7 @@ use Rattle.desk_day_listing.specs.Listing as listing
 use Rattle.desk_day_listing.specs.Listing.{runListing, dayListing}
 use Rattle.desk_inquiry.specs.Input.{ready, asked}
 use Rattle.desk_inquiry.proofs.Images.{image-asks}
-use Rattle.desk_explanation.specs.Explanation.{told, explained, answerTo, explanation}
+use Rattle.desk_explanation.specs.Explanation.{told, explained, devicesIn, answerTo, explanation}
 
 -- a text that begins with a line
 record Begins (line text : List ℕ) : Type 0 where
@@ -42,10 +43,10 @@ begins-longer : {line text : List ℕ} (more : List ℕ) → Begins line text �
 begins-longer {line} {text} more b = record { rest = b .rest ++ more; is = ap (λ (t : List ℕ). t ++ more) (b .is) ∙ append-assoc line (b .rest) more }
 
 -- the run's last line comes first
-end-first : (m : Machine) (memory : List ℕ) (budget : ℕ)
-    → Begins (endLine (run budget (start m memory) .steps) (reasonOf (run budget (start m memory) .left .run))) (explained m memory budget)
+end-first : (m : Machine) (c : Devices) (memory : List ℕ) (budget : ℕ) (input : List ℕ)
+    → Begins (endLine (run budget (start m memory) .steps) (reasonOf (run budget (start m memory) .left .run))) (explained false m c memory budget input)
 unfolding explained told
-end-first m memory budget = search (begins-longer, begins-itself)
+end-first m c memory budget input = begins-longer _ (begins-longer _ (begins-longer _ (begins-longer _ (begins-longer _ begins-itself))))
 
 -- ---- one line
 
@@ -63,6 +64,7 @@ decimal-clean (suc n) x =
 reason-clean : (why : Reason) → clean (tab ∷ reasonWord why) ≡ true
 reason-clean Halted = refl
 reason-clean Spent = refl
+reason-clean Paper = refl
 
 -- a run's last line is one line
 abbrev endBytes : ℕ → Reason → List ℕ
@@ -139,14 +141,14 @@ module _ (text : List ℕ) (fit : firstUnfit isWordLine 1 (lines text) ≡ 0) wh
       let one : lines ends ≡ record { bytes = end; ended = true } ∷ [] = ap lines (sym (append-nil ends)) ∙ end-line-cut _ _ [] in
       ap (λ (t : List ℕ). lastOf (lines t)) listed ∙ ap lastOf (whole ends) ∙ ap (λ (ls : List Line). lastOf (lines above ++ ls)) one ∙ last-one (lines above) _
 
-  explains : explanation text ≡ explained (machineOf (ready .registers)) memory (ready .budget)
+  explains : explanation text ≡ explained (ready .devices) (machineOf (ready .registers)) (devicesIn (ready .registers)) memory (ready .budget) (ready .input)
   unfolding explanation
   explains = let asks = image-asks text fit in ap (λ (n : ℕ). orRefused n (answerTo (asked text))) (asks .fits) ∙ ap answerTo (asks .asks)
 
   explained-first : firstOf (lines (explanation text)) ≡ end
   unfolding ready
   explained-first =
-      let b = end-first (machineOf (ready .registers)) memory (ready .budget) in
+      let b = end-first (machineOf (ready .registers)) (devicesIn (ready .registers)) memory (ready .budget) (ready .input) in
       ap (λ (t : List ℕ). firstOf (lines t)) (explains ∙ b .is) ∙ ap firstOf (end-line-cut _ _ (b .rest))
 
   -- the explanation's first line is the listing's last line

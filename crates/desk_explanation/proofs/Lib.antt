@@ -1,3 +1,5 @@
+pub mod Starts
+pub mod LastStep
 pub mod Answers
 pub mod Sizes
 pub mod ByText

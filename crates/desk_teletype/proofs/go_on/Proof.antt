@@ -1,6 +1,6 @@
 -- `desk_teletype::go_on`: what the emulator answers is the turn that the definition has, a run or a refusal.
 use borrow.Author.Needs.{needs}
-use mathlib.Core.Path.{_≡_, sym, ap, _∙_}
+use mathlib.Core.Path.{_≡_, ap, _∙_}
 use denote.Ref.{now}
 use Prim.Native.Nat.{ℕ}
 use lib.ListN.{length}

@@ -25,7 +25,7 @@ use Rattle.emulator.specs.Emulate.{DeviceReport, finishedDevices, refuse
 use Rattle.emulator.proofs.Starts.{fit-checked}
 
 -- the answer of a run that no check turns down
-run-of : (m : Machine) (c : Devices) (memory : List ℕ) (budget : ℕ) (input output : List ℕ) → Good (start m memory) → DevicesFit c → budget ≤ budgetLimit
+pub run-of : (m : Machine) (c : Devices) (memory : List ℕ) (budget : ℕ) (input output : List ℕ) → Good (start m memory) → DevicesFit c → budget ≤ budgetLimit
     → emulateDevices m c memory budget input output ≡ finishedDevices input output (run (length output) budget (opened (console (start m memory) c) input))
 unfolding emulateDevices
 run-of m c memory budget input output g f h =

@@ -115,9 +115,9 @@ pub fn pending_image(random: &mut Random, word: u16, enabled_before: bool) -> Im
     Image { name, memory, lac, pc, switches, interrupt_enable: u16::from(enabled_before), interrupt_request: 1, devices: None, budgets, expected: Vec::new() }
 }
 
-/// The words of the second group of op 7 that both machines are meant to run alike, halts and others.
+/// The words of the second group of op 7, halts and others.
 pub fn second_group() -> impl Iterator<Item = u16> {
-    (0o7400..=0o7776).step_by(2).filter(|word| comparable(*word))
+    (0o7400..=0o7776).step_by(2)
 }
 
 /// Whether document 01 and SIMH's machine are meant to do the same at this word: see harness/SIMH.md.
@@ -127,7 +127,5 @@ pub fn comparable(word: u16) -> bool {
     let iot = word >> 9 == 6;
     let swaps_bytes = group_1 && word & 0o16 == 0o2;
     let rotates_both = group_1 && word & 0o14 == 0o14;
-    let group_2 = word & 0o7401 == 0o7400;
-    let opposites = group_2 && word & 0o10 != 0 && (word & 0o160).count_ones() > 1;
-    (!iot || word == ION || word == IOF) && !swaps_bytes && !rotates_both && !opposites && (!group_3 || word & 0o376 == 0 || word & 0o376 == 0o200)
+    (!iot || word == ION || word == IOF) && !swaps_bytes && !rotates_both && (!group_3 || word & 0o376 == 0 || word & 0o376 == 0o200)
 }

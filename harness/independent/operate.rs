@@ -56,8 +56,8 @@ fn skip_or_halt<W: Watch>(machine: &mut Machine, i: u16, watch: &mut W) {
     let zero = machine.ac() == 0;
     let link = machine.link() == 1;
     let skips = if bit(i, 8) {
-        let none_selected = i & 0o160 == 0;
-        none_selected || bit(i, 5) && !negative || bit(i, 6) && !zero || bit(i, 7) && !link
+        // a condition that is not selected doesn't count
+        (!bit(i, 5) || !negative) && (!bit(i, 6) || !zero) && (!bit(i, 7) || !link)
     } else {
         bit(i, 5) && negative || bit(i, 6) && zero || bit(i, 7) && link
     };

@@ -77,6 +77,6 @@ pub day : explanation input
     ≡ ascii "end\t4\thalted\nlast\t0203\t7402\tHLT\nLAC\t10000\nPC\t0204\nRUN\t0\nINTERRUPT.ENABLE\t0\nINTERRUPT.REQUEST\t0\nSWITCHES\t0000\n"
     ++ ascii "i\t7402\nlast.pc\t0203\neadd\t0204\nskip\t0\n"
     ++ ascii "1\tdo\t1\ti\tM[PC]\n2\tdo\t1\tlast.pc\tPC\n3\tdo\t1\tPC\tPC + 1\n5\tgo\ti<0:2> Eql #7\topr\nat\topr\t35\n35\tgo\ti<3>\tgroup.2\nat\tgroup.2\t48\n"
-    ++ ascii "49\tdo\t1\tskip\t0\n54\tgo\t1\tdecided\nat\tdecided\t59\n62\tdo\ti<10>\tRUN\t0\n63\tgo\ti<10>\trestart\nat\trestart\t71\n"
+    ++ ascii "49\tdo\t1\tskip\t0\n57\tdo\ti<10>\tRUN\t0\n58\tgo\ti<10>\trestart\nat\trestart\t66\n"
 unfolding interruptTest makesTest halts clearsRun firstAddress indexed effective afterIndexing operation reference changed rotated skips group1 group2 operate execute stepWith runFrom octal decimalIn decimal endLine clear bytes.run same numberAt lines field hasFields find cycleFrom shippedText wordEntry registerEntry budgetEntry said entry ready entered afterLines firstUnfit names namesOf spaced mnemonic lastLine wordLine changeLines lastStep passes rowTexts atLine labelLine rowLine rowLines explanation
 day = let q = asked input in by-tree (machineOf (q .registers)) (devicesIn (q .registers)) (q .memory) (q .budget) (q .input)

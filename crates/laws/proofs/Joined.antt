@@ -1,7 +1,7 @@
--- Tests that are joined by `&&` or `||`: what they tell of their parts.
+-- Tests that are joined by `&&` or `||`: what they tell of their parts, and their negation.
 -- Assumes nothing.
 use mathlib.Core.Path.{_≡_, refl, sym}
-use mathlib.Core.Bool.{Bool, true, false, false≢true, _&&_, _||_}
+use mathlib.Core.Bool.{Bool, true, false, false≢true, not, _&&_, _||_}
 
 pub and-left : (a b : Bool) → a && b ≡ true → a ≡ true
 and-left true b e = refl
@@ -52,3 +52,12 @@ either false b e p q = q e
 pub neither-right : (a b : Bool) → a || b ≡ false → b ≡ false
 neither-right true b e = absurd (false≢true (sym e))
 neither-right false b e = e
+
+-- the negation of both (De Morgan)
+pub not-and : (a b : Bool) → not (a && b) ≡ not a || not b
+not-and true b = refl
+not-and false b = refl
+
+pub not-or : (a b : Bool) → not (a || b) ≡ not a && not b
+not-or true b = refl
+not-or false b = refl

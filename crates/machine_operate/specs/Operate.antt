@@ -61,11 +61,10 @@ sign lac = bits lacBits 1 1 lac
 abbrev pub skipsPlain : ℕ → ℕ → Bool
 skipsPlain i lac = (on (flag 5 i) && on (sign lac)) || (on (flag 6 i) && not (on (ac lac))) || (on (flag 7 i) && on (link lac))
 
--- "Bit 8 = 1: skip if bits 5 to 7 are all 0, or if any selected one holds: bit 5 AC<0> = 0, bit 6 AC not 0, bit 7 L = 0"
+-- "Bit 8 = 1: .. bit 5 AC<0> = 0, bit 6 AC not 0, bit 7 L = 0"; document 02, Three: "all selected conditions must hold; none selected still skips"
 abbrev pub skipsReversed : ℕ → ℕ → Bool
 skipsReversed i lac =
-    not (on (bits wordBits 5 7 i))
-    || (on (flag 5 i) && not (on (sign lac))) || (on (flag 6 i) && on (ac lac)) || (on (flag 7 i) && not (on (link lac)))
+    (not (on (flag 5 i)) || not (on (sign lac))) && (not (on (flag 6 i)) || on (ac lac)) && (not (on (flag 7 i)) || not (on (link lac)))
 
 unfoldable pub skips : ℕ → ℕ → Bool
 skips i lac = pick (on (flag 8 i)) (skipsReversed i lac) (skipsPlain i lac)

@@ -3,7 +3,7 @@ use word::WORD_VALUES;
 ghost use mathlib.Core.Path.{_≡_};
 ghost use Rattle.word.specs.Choice.{pick};
 ghost use Rattle.word.specs.Word.{next};
-ghost use Rattle.machine_operate.specs.Operate.{skips, skipsPlain, skipsReversed};
+ghost use Rattle.machine_operate.specs.Operate.{skips, skipsPlain};
 
 // The place value of AC<0> in LAC.
 const SIGN: u64 = 0o4000;
@@ -25,25 +25,12 @@ fn skips_plain(i: u64, lac: u64) -> bool
         | ((i / SNL % 2 != 0) & (lac / WORD_VALUES % 2 != 0))
 }
 
-// The same of the reversed conditions, or of none selected.
-fn skips_reversed(i: u64, lac: u64) -> bool
-    ensures { λ r. ⌜ r ≡ skipsReversed i lac ⌝ }
-{
-    !(i / SNL % 8 != 0)
-        | ((i / SMA % 2 != 0) & !(lac / SIGN % 2 != 0))
-        | ((i / SZA % 2 != 0) & (lac % WORD_VALUES != 0))
-        | ((i / SNL % 2 != 0) & !(lac / WORD_VALUES % 2 != 0))
-}
-
-// Whether the instruction skips the next one.
+// Whether the instruction skips the next one. Every reversed condition that is selected holds just where no plain one does.
 fn is_skip(i: u64, lac: u64) -> bool
     ensures { λ r. ⌜ r ≡ skips i lac ⌝ }
 {
-    if i / REVERSED % 2 != 0 {
-        skips_reversed(i, lac)
-    } else {
-        skips_plain(i, lac)
-    }
+    let plain = skips_plain(i, lac);
+    if i / REVERSED % 2 != 0 { !plain } else { plain }
 }
 
 // PC after a skip, or after none.

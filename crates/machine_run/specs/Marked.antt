@@ -64,4 +64,6 @@ marked =
     -- document 02, One: 7402 with INTERRUPT.ENABLE and INTERRUPT.REQUEST both 1; 7403, which doesn't halt, is tested
     ∷ record { before = pending 0o7402; after = withPc 0o201 (withRun 0 (pending 0o7402)) }
     ∷ record { before = pending 0o7403; after = withPc 1 (withEnable 0 (stored 0 0o201 (pending 0o7403))) }
+    -- document 02, Three: "7550 with AC 0 no longer skips"
+    ∷ onLac 0o7550 0 0
     ∷ []

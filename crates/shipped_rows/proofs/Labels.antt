@@ -13,7 +13,7 @@ use Rattle.shipped_rows.proofs.Tree.{
   rows·interrupt,
   rows·group3,
   rows·decided,
-  rows·inverted,
+  rows·second,
   rows·group2,
   rows·twice,
   rows·opr,
@@ -72,17 +72,11 @@ module _ (v : Variant) where
   group3-decided : Below (rows·group3 v) (rows·decided v)
   group3-decided = under (under (under (under (under (under here)))))
 
-  pub decided-inverted : Below (rows·decided v) (rows·inverted v)
-  decided-inverted = under (under (under (under here)))
-
-  pub group3-inverted : Below (rows·group3 v) (rows·inverted v)
-  group3-inverted = through group3-decided decided-inverted
-
-  inverted-group2 : Below (rows·inverted v) (rows·group2 v)
-  inverted-group2 = under (under (under (under (under (under (under here))))))
+  pub group3-second : Below (rows·group3 v) (rows·second v)
+  group3-second = under (under (under (under (under group3-decided))))
 
   pub interrupt-group2 : Below (rows·interrupt v) (rows·group2 v)
-  interrupt-group2 = through interrupt-group3 (through group3-inverted inverted-group2)
+  interrupt-group2 = through interrupt-group3 (under group3-second)
 
   pub group2-twice : Below (rows·group2 v) (rows·twice v)
   group2-twice = under (under (under here))

@@ -22,7 +22,7 @@ use Rattle.machine_operate.specs.Operate.{cleared, linkCleared, complemented, l
 use Rattle.machine_operate.proofs.Changes.{cleared-lt, changed-lt}
 use Rattle.shipped_rows.specs.Variant.{Variant}
 use Rattle.shipped_rows.proofs.Tree.{rows·opr, rows·group1, rotates, rows·group3, rows·interrupt}
-use Rattle.shipped_rows.proofs.Labels.{Below, here, under, interrupt-group2, interrupt-twice, group2-twice, group3-inverted}
+use Rattle.shipped_rows.proofs.Labels.{Below, here, under, interrupt-group2, interrupt-twice, group2-twice, group3-second}
 use Rattle.shipped_rows.proofs.Places.{Work, Fit, inPlaces}
 use Rattle.shipped_rows.proofs.Ends.{Ends, moved, jumps, decides, Tested}
 use Rattle.shipped_rows.proofs.Working.{i-bit}
@@ -101,5 +101,5 @@ module _ (v : Variant) {c : Devices} {test : State → State} (tested : Tested v
   unfolding operate clearsRun
   ends-opr =
       decides (under (under (under (under (under (under (under (under (under (group2-twice v)))))))))) (λ (t : Bool). ended t (on (flag 11 i))) (on (flag 3 i)) (i-bit v c o w 3)
-      (decides (under (under (under (under (under (under (group3-inverted v))))))) (ended true) (on (flag 11 i)) (i-bit v c o w 11) ends-group3 (ends-second v tested g f))
+      (decides (group3-second v) (ended true) (on (flag 11 i)) (i-bit v c o w 11) ends-group3 (ends-second v tested g f))
       ends-group1

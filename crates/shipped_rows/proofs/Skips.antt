@@ -1,14 +1,15 @@
 -- The rows of op 7's second group: the skip, AC, SWITCHES and RUN.
 -- Assumes nothing.
-use mathlib.Core.Path.{_≡_, refl, sym, ap, _∙_}
-use mathlib.Core.Bool.{Bool, false, not, _&&_, _||_, Bool·not-not}
+use mathlib.Core.Path.{_≡_, refl, sym, ap, _∙_, subst}
+use mathlib.Core.Bool.{Bool, true, false, not, _&&_, _||_}
 use mathlib.Core.List.{List, _∷_}
-use Prim.Native.Nat.{ℕ, _^_, _<_}
+use Prim.Native.Nat.{ℕ, _%_, _^_, _<_}
+use native.Mathlib.Nat.{mod-eq-of-lt}
 use native.Mathlib.Omega.{arith}
 use lib.Bits.{bitAnd, bitOr}
-use lib.Dec.{eqb, lit<}
+use lib.Dec.{lit<}
 use Rattle.word.specs.Choice.{on, pick, bit}
-use Rattle.word.specs.Word.{wordBits, bits, next}
+use Rattle.word.specs.Word.{wordBits, next}
 use Rattle.word.proofs.Choice.{pick-either, on-bit, bit-lt}
 use Rattle.word.proofs.Next.{next-lt}
 use Rattle.devices.specs.declared.Devices.{Devices}
@@ -20,16 +21,17 @@ use Rattle.text_code.specs.Tree.{Expr}
 use Rattle.text_declaration.specs.Rows.{Row, does}
 use Rattle.rows_value.specs.Value as rows
 use Rattle.rows_value.specs.Value.{value}
-use Rattle.machine_operate.specs.Operate.{cleared, sign, skipsPlain, skipsReversed, skips, switched, group2}
+use Rattle.machine_operate.specs.Operate.{cleared, sign, skipsPlain, switched, group2}
 use Rattle.machine_operate.proofs.Changes.{cleared-lt, switched-lt}
+use Rattle.machine_operate.proofs.Reversed.{skips-by}
 use Rattle.shipped_rows.specs.Variant.{Variant}
 use Rattle.shipped_rows.proofs.Tree as tree
-use Rattle.shipped_rows.proofs.Tree.{toSkip, one, rows·second, rows·skips, rows·inverted, rows·decided, rows·runs}
-use Rattle.shipped_rows.proofs.Labels.{here, under, at-the-end, interrupt-group3, decided-inverted}
+use Rattle.shipped_rows.proofs.Tree.{toSkip, one, rows·second, rows·decided, rows·runs}
+use Rattle.shipped_rows.proofs.Labels.{at-the-end, interrupt-group3}
 use Rattle.shipped_rows.proofs.Places.{Work, Fit, inPlaces, withSkip, skip-fit, skip-stored}
 use Rattle.shipped_rows.proofs.Ends.{Ends, past, seen, acts, moved, jumps, decides, Tested}
 use Rattle.shipped_rows.proofs.Working.{i-bits, i-bit, skip-is}
-use Rattle.shipped_rows.proofs.Bits.{Flag, of-test, of-bit, of-zero, negated, flag-and, on-flag, set-where}
+use Rattle.shipped_rows.proofs.Bits.{Flag, of-bit, of-zero, flag-and, on-flag, set-where}
 
 module _ (v : Variant) {c : Devices} {test : State → State} (tested : Tested v c test) {o : State} {w : Work} (g : Good o) (f : Fit w) where
   abbrev i : ℕ
@@ -100,36 +102,26 @@ module _ (v : Variant) {c : Devices} {test : State → State} (tested : Tested v
   abbrev snl : Bool
   snl = on (flag 7 i) && on (link lac)
 
-  abbrev none : Bool
-  none = not (on (bits wordBits 5 7 i))
+  -- the skip turned round is its negation
+  turned : (b : Bool) → value (skip-so-far b) (tree.reversedSkip v) ≡ bit (not b)
+  turned true = rw (skip-is v c o (skipping true))
+  turned false = rw (skip-is v c o (skipping false))
 
-  abbrev spa : Bool
-  spa = on (flag 5 i) && not (on (sign lac))
+  -- the row by which bit 8 turns it round
+  reverses : {rs : List Row} {p : State} (b : Bool) → Ends v c rs (skip-so-far (pick (on (flag 8 i)) (not b) b)) p
+      → Ends v c (does (tree.iBit v 8) (toSkip v) (tree.reversedSkip v) ∷ rs) (skip-so-far b) p
+  reverses b r =
+      moved skip-so-far b (not b) (on (flag 8 i)) (i-bit v c o (skipping b) 8)
+      (skip-stored v c o (skipping b) (value (skip-so-far b) (tree.reversedSkip v)) (ap (λ (x : ℕ). x % 2) (turned b) ∙ mod-eq-of-lt (bit-lt (not b)))) r
 
-  abbrev sna : Bool
-  sna = on (flag 6 i) && on (ac lac)
-
-  abbrev szl : Bool
-  szl = on (flag 7 i) && not (on (link lac))
-
-  ends-plain : Ends v c (rows·skips v) (skip-so-far false) (ended (skipsPlain i lac))
-  ends-plain =
-      selects false sma (selected false 5 (omega arith) (of-bit (sign lac) (omega arith)))
+  ends-selected : Ends v c (rows·second v) (inPlaces v c o w) (ended (pick (on (flag 8 i)) (not (skipsPlain i lac)) (skipsPlain i lac)))
+  ends-selected =
+      acts (skip-so-far false) refl (skip-stored v c o w 0 refl)
+      (selects false sma (selected false 5 (omega arith) (of-bit (sign lac) (omega arith)))
       (selects sma sza (selected sma 6 (omega arith) (of-zero (ac lac)))
       (selects (sma || sza) snl (selected (sma || sza) 7 (omega arith) (of-bit (link lac) (omega arith)))
-      (jumps (decided-inverted v) refl (ends-decided (skipsPlain i lac)))))
-
-  ends-inverted : Ends v c (rows·inverted v) (skip-so-far false) (ended (skipsReversed i lac))
-  ends-inverted =
-      selects false none (on-bit _ ∙ ap (λ (x : ℕ). eqb x 0) (i-bits v c o (skipping false) 5 7) ∙ sym (Bool·not-not (eqb (bits wordBits 5 7 i) 0)))
-      (selects none spa (selected none 5 (omega arith) (negated (of-bit (sign lac) (omega arith))))
-      (selects (none || spa) sna (selected (none || spa) 6 (omega arith) (of-test (on (ac lac))))
-      (selects (none || spa || sna) szl (selected (none || spa || sna) 7 (omega arith) (negated (of-bit (link lac) (omega arith))))
-      (ends-decided (skipsReversed i lac)))))
+      (reverses (skipsPlain i lac) (ends-decided (pick (on (flag 8 i)) (not (skipsPlain i lac)) (skipsPlain i lac)))))))
 
   pub ends-second : Ends v c (rows·second v) (inPlaces v c o w) (testedIf test (not (on (flag 10 i))) (group2 i o))
-  unfolding group2 skips
-  ends-second =
-      acts (skip-so-far false) refl (skip-stored v c o w 0 refl)
-      (decides (under (under (under (under here)))) (λ (t : Bool). ended (pick t (skipsReversed i lac) (skipsPlain i lac))) (on (flag 8 i)) (i-bit v c o (skipping false) 8)
-      ends-inverted ends-plain)
+  unfolding group2
+  ends-second = subst (λ (b : Bool). Ends v c (rows·second v) (inPlaces v c o w) (ended b)) (sym (skips-by i lac)) ends-selected

@@ -10,7 +10,7 @@ use Rattle.characters.specs.Ascii.{ascii}
 use Rattle.characters.specs.Named.{Named}
 use Rattle.devices.specs.Devices.{byteBits}
 use Rattle.machine_state.specs.State.{lacBits}
-use Rattle.text_operators.specs.declared.Operator.the-variants.{Join, RotateLeft, RotateRight, Add, Equal, Unequal, And, Or}
+use Rattle.text_operators.specs.declared.Operator.the-variants.{Join, RotateLeft, RotateRight, Add, Equal, And, Or}
 use Rattle.text_code.specs.Tree.{Expr, Destination, register, bitPart, constant, memory, complemented, rotated, binary, toRegister, toPart, toMemory}
 use Rattle.text_declaration.specs.Rows.{Row, does, goes, Description}
 use Rattle.shipped_rows.specs.Variant.{Variant, plain, devices, registersOf}
@@ -168,6 +168,10 @@ module _ (v : Variant) where
   abbrev pub skip : Expr
   skip = register (workAt v 3) 1
 
+  -- the skip, turned round
+  abbrev pub reversedSkip : Expr
+  reversedSkip = complemented skip
+
   abbrev pub toI : Destination
   toI = toRegister (workAt v 0) wordBits
 
@@ -210,6 +214,7 @@ module _ (v : Variant) where
   abbrev pub rows·runs : List Row
   rows·runs = goTo one rows·interrupt rows·group3
 
+  -- its rows once the skip is decided
   abbrev pub rows·decided : List Row
   rows·decided =
       does skip toPc (binary Add pc one)
@@ -218,27 +223,15 @@ module _ (v : Variant) where
       ∷ does (iBit 10) toRun nought
       ∷ goTo (iBit 10) rows·restart rows·runs
 
-  abbrev pub rows·inverted : List Row
-  rows·inverted =
-      does (binary Equal (iBits 5 7) nought) toSkip one
-      ∷ does (binary And (iBit 5) (complemented sign)) toSkip one
-      ∷ does (binary And (iBit 6) (binary Unequal ac nought)) toSkip one
-      ∷ does (binary And (iBit 7) (complemented link)) toSkip one
-      ∷ rows·decided
-
-  -- the conditions of bits 5 to 7 as they are
-  abbrev pub rows·skips : List Row
-  rows·skips =
-      does (binary And (iBit 5) sign) toSkip one
-      ∷ does (binary And (iBit 6) (binary Equal ac nought)) toSkip one
-      ∷ does (binary And (iBit 7) link) toSkip one
-      ∷ goTo one rows·decided rows·inverted
-
-  -- the second group, which the third is told from
+  -- the second group, which the third is told from: the conditions of bits 5 to 7, and bit 8, which turns the skip round
   abbrev pub rows·second : List Row
   rows·second =
       does one toSkip nought
-      ∷ goTo (iBit 8) rows·inverted rows·skips
+      ∷ does (binary And (iBit 5) sign) toSkip one
+      ∷ does (binary And (iBit 6) (binary Equal ac nought)) toSkip one
+      ∷ does (binary And (iBit 7) link) toSkip one
+      ∷ does (iBit 8) toSkip reversedSkip
+      ∷ rows·decided
 
   abbrev pub rows·group2 : List Row
   rows·group2 = goTo (iBit 11) rows·group3 rows·second

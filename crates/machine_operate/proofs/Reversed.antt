@@ -19,6 +19,7 @@ pub skips-by : (i lac : ℕ) → skips i lac ≡ pick (on (flag 8 i)) (not (skip
 unfolding skips
 skips-by i lac = ap (λ (t : Bool). pick (on (flag 8 i)) t (skipsPlain i lac)) (reversed-is i lac)
 
+-- a test, as a choice
 chosen : (t : Bool) → pick t true false ≡ t
 chosen true = refl
 chosen false = refl

@@ -1,4 +1,4 @@
--- `machine_operate::skip::skips_reversed`: the first selected condition that does not hold decides; it is a plain one that does.
+-- `machine_operate::skip::skips_reversed`: the first selected condition that does not hold decides, which is to say the first plain one that holds.
 use mathlib.Core.Path.{_≡_}
 use mathlib.Core.Bool.{Bool, true, false, not, _||_}
 use Rattle.machine_state.proofs.Lac.{ac-is}
@@ -6,6 +6,7 @@ use Rattle.machine_operate.proofs.Reversed.{reversed-is}
 use Rattle.machine_operate.proofs.skip.skips_reversed.Statement.{statement}
 use Rattle.machine_operate.proofs.skip.skips_reversed.Tie as tie
 
+-- the plain conditions, as the code comes to them
 first : (a b c : Bool) → a ≡ true → false ≡ not (a || b || c)
 first a b c p = rw p
 

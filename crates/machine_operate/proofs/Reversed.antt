@@ -1,14 +1,25 @@
--- The reversed skips: all that are selected hold where no plain one does; and where none is selected bit 8 alone decides.
+-- The conditions of a skip, and the reversed ones: all that are selected hold where no plain one does; and where none is selected bit 8 alone decides.
 -- Assumes nothing.
 use mathlib.Core.Path.{_≡_, refl, ap}
-use mathlib.Core.Bool.{Bool, true, false, not, Bool·not-not}
+use mathlib.Core.Bool.{Bool, true, false, not, _&&_, Bool·not-not}
 use Prim.Native.Nat.{ℕ}
 use native.Mathlib.Omega.{arith}
 use Rattle.laws.proofs.Joined.{not-and, not-or}
 use Rattle.word.specs.Choice.{on, pick}
 use Rattle.word.specs.Word.{wordBits, bits}
+use Rattle.machine_state.specs.State.{link, ac}
 use Rattle.machine_state.specs.Instruction.{flag}
-use Rattle.machine_operate.specs.Operate.{skipsPlain, skipsReversed, skips}
+use Rattle.machine_operate.specs.Operate.{sign, skipsPlain, skipsReversed, skips}
+
+-- bits 5 to 7 with their plain conditions, by the names that they have in 002
+abbrev pub sma : ℕ → ℕ → Bool
+sma i lac = on (flag 5 i) && on (sign lac)
+
+abbrev pub sza : ℕ → ℕ → Bool
+sza i lac = on (flag 6 i) && not (on (ac lac))
+
+abbrev pub snl : ℕ → ℕ → Bool
+snl i lac = on (flag 7 i) && on (link lac)
 
 -- "all selected conditions must hold" is the negation of "any selected condition holds" of the plain conditions
 pub reversed-is : (i lac : ℕ) → skipsReversed i lac ≡ not (skipsPlain i lac)

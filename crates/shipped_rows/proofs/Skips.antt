@@ -23,7 +23,7 @@ use Rattle.rows_value.specs.Value as rows
 use Rattle.rows_value.specs.Value.{value}
 use Rattle.machine_operate.specs.Operate.{cleared, sign, skipsPlain, switched, group2}
 use Rattle.machine_operate.proofs.Changes.{cleared-lt, switched-lt}
-use Rattle.machine_operate.proofs.Reversed.{skips-by}
+use Rattle.machine_operate.proofs.Reversed.{sma, sza, snl, skips-by}
 use Rattle.shipped_rows.specs.Variant.{Variant}
 use Rattle.shipped_rows.proofs.Tree as tree
 use Rattle.shipped_rows.proofs.Tree.{toSkip, one, rows·second, rows·decided, rows·runs}
@@ -92,16 +92,6 @@ module _ (v : Variant) {c : Devices} {test : State → State} (tested : Tested v
   selected : (b : Bool) (k : ℕ) {x : ℕ} {t : Bool} → flag k i < 2 → Flag x t → on (bitAnd (value (skip-so-far b) (tree.iBit v k)) x) ≡ (on (flag k i) && t)
   selected b k {x} h p = ap (λ (y : ℕ). on (bitAnd y x)) (i-bits v c o (skipping b) k k) ∙ on-flag (flag-and (of-bit (flag k i) h) p)
 
-  -- bits 5 to 7, by the names that they have in 002
-  abbrev sma : Bool
-  sma = on (flag 5 i) && on (sign lac)
-
-  abbrev sza : Bool
-  sza = on (flag 6 i) && not (on (ac lac))
-
-  abbrev snl : Bool
-  snl = on (flag 7 i) && on (link lac)
-
   -- the skip turned round is its negation
   turned : (b : Bool) → value (skip-so-far b) (tree.reversedSkip v) ≡ bit (not b)
   turned true = rw (skip-is v c o (skipping true))
@@ -117,9 +107,9 @@ module _ (v : Variant) {c : Devices} {test : State → State} (tested : Tested v
   ends-selected : Ends v c (rows·second v) (inPlaces v c o w) (ended (pick (on (flag 8 i)) (not (skipsPlain i lac)) (skipsPlain i lac)))
   ends-selected =
       acts (skip-so-far false) refl (skip-stored v c o w 0 refl)
-      (selects false sma (selected false 5 (omega arith) (of-bit (sign lac) (omega arith)))
-      (selects sma sza (selected sma 6 (omega arith) (of-zero (ac lac)))
-      (selects (sma || sza) snl (selected (sma || sza) 7 (omega arith) (of-bit (link lac) (omega arith)))
+      (selects false (sma i lac) (selected false 5 (omega arith) (of-bit (sign lac) (omega arith)))
+      (selects (sma i lac) (sza i lac) (selected (sma i lac) 6 (omega arith) (of-zero (ac lac)))
+      (selects (sma i lac || sza i lac) (snl i lac) (selected (sma i lac || sza i lac) 7 (omega arith) (of-bit (link lac) (omega arith)))
       (reverses (skipsPlain i lac) (ends-decided (pick (on (flag 8 i)) (not (skipsPlain i lac)) (skipsPlain i lac)))))))
 
   pub ends-second : Ends v c (rows·second v) (inPlaces v c o w) (testedIf test (not (on (flag 10 i))) (group2 i o))

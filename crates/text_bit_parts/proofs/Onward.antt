@@ -1,7 +1,7 @@
 -- Whatever is read ends after its start and within the field; a register that is read is one of the list, and bit numbers are below its width.
 -- Assumes nothing.
 use mathlib.Core.Path.{_≡_, refl, sym, ap, subst, _∙_}
-use mathlib.Core.Bool.{Bool, true, false, false≢true, _&&_, _||_}
+use mathlib.Core.Bool.{true, false, false≢true, _&&_}
 use mathlib.Core.List.{List}
 use Prim.Native.Nat.{ℕ, _+_, _-_, _≤_, _<_}
 use native.Mathlib.Omega.{arith}
@@ -9,19 +9,16 @@ use lib.Dec.{eqb, leb, ltb}
 use lib.ListN.{length, getD, drop-of-length-le, List·getD-eq-default}
 use lib.Seq.{take-nil}
 use borrow.Author.Tests.{ltb-true, ltb-false, leb-true, eqb-true}
-use Rattle.characters.specs.Characters.{isDigit, isLetter, isWord, runEnd, same}
-use Rattle.text_constants.specs.Constants.{binaryMark, octalMark, numberAt, isPlain, largest, decimalAt, markedAt, ofDecimal, constantAt, binaryDigits, octalDigits}
+use Rattle.characters.specs.Characters.{isLetter, isWord, runEnd, same}
+use Rattle.text_constants.specs.Constants.{decimalAt}
 use Rattle.characters.specs.Named.{Named, find}
-use Rattle.characters.specs.declared.Class.{Class}
-use Rattle.characters.specs.declared.Class.the-variants.{Space, Word, Binary, Octal, Decimal}
+use Rattle.characters.specs.declared.Class.the-variants.{Space, Word}
 use Rattle.text_constants.specs.declared.Number.{Number}
 use Rattle.text_constants.specs.declared.Number.the-variants.{Plain, Unread}
-use Rattle.text_constants.specs.declared.Constant.{Constant}
-use Rattle.text_constants.specs.declared.Constant.the-variants.{Found, Missing}
 use Rattle.characters.proofs.Runs.{onward, within, run-onward}
 use Rattle.laws.proofs.Joined.{and-left, and-right}
 use Rattle.laws.proofs.Tests.{by-test, by-case}
-use Rattle.text_constants.proofs.Digits.{digits-between}
+use Rattle.text_constants.proofs.Places.{Past, NumberPast, decimal-past}
 use Rattle.text_bit_parts.specs.declared.Span.{Span}
 use Rattle.text_bit_parts.specs.declared.Span.the-variants.{Bits, Bad}
 use Rattle.text_bit_parts.specs.declared.Reference.{Reference}
@@ -35,19 +32,7 @@ use Rattle.text_bit_parts.specs.References.{secondBit, firstBit, spanAt,
 use Rattle.laws.proofs.Lists.{present}
 use Rattle.text_tokens.proofs.Tokens.{token-inside}
 
--- after `at`, and within the field
-abbrev pub Past : List ℕ → ℕ → ℕ → Type 0
-Past s at p = (at < p) × (p ≤ length s)
-
--- the same of what is read, if something is
-abbrev pub NumberPast : List ℕ → ℕ → Number → Type 0
-NumberPast s at (Plain v p) = Past s at p
-NumberPast s at Unread = Unit {0}
-
-abbrev pub ConstantPast : List ℕ → ℕ → Constant → Type 0
-ConstantPast s at (Found v w p) = Past s at p
-ConstantPast s at Missing = Unit {0}
-
+-- after its start, and within the field
 abbrev SpanPast : List ℕ → ℕ → Span → Type 0
 SpanPast s at (Bits a b p) = Past s at p
 SpanPast s at Bad = Unit {0}
@@ -57,14 +42,7 @@ ReferencePast s at (Whole r w p) = Past s at p
 ReferencePast s at (Part r w a b p) = Past s at p
 ReferencePast s at Unknown = Unit {0}
 
--- words: digits and letters begin one, and it ends past its start
-pub word-of-digit : (b : ℕ) → isDigit b ≡ true → isWord b ≡ true
-word-of-digit b e = rw e (or-true (isLetter b))
-  where
-    or-true : (t : Bool) → t || true || eqb b 46 ≡ true
-    or-true true = refl
-    or-true false = refl
-
+-- words: a letter begins one, and it ends past its start
 pub word-of-letter : (b : ℕ) → isLetter b ≡ true → isWord b ≡ true
 word-of-letter b e = rw e
 
@@ -78,45 +56,6 @@ word-past s at e =
 
 pub letters-past : (s : List ℕ) (at r : ℕ) → isLetter (getD s at 0) ≡ true → r ≡ runEnd Word s at → Past s at r
 letters-past s at r l e = subst (Past s at) (sym e) (word-past s at (word-of-letter (getD s at 0) l))
-
--- decimals
-number-past : (s : List ℕ) (at : ℕ) → NumberPast s at (decimalAt s at)
-unfolding decimalAt
-number-past s at =
-    let plain = isPlain (getD s at 0) at (runEnd Decimal s at) (runEnd Word s at) in
-    by-case (NumberPast s at) (isDigit (getD s at 0) && plain)
-    (λ t.
-    by-case (NumberPast s at) (leb (numberAt 10 s at (runEnd Word s at - at) 0) largest)
-    (λ u. word-past s at (word-of-digit (getD s at 0) (and-left (isDigit (getD s at 0)) plain t)))
-    (λ u. tt))
-    (λ t. tt)
-
-pub decimal-past : (s : List ℕ) (at : ℕ) {x : Number} → decimalAt s at ≡ x → NumberPast s at x
-decimal-past s at e = subst (NumberPast s at) e (number-past s at)
-
--- constants: digits behind the mark at a place, or a decimal
-marked-past : (k : Class) (base size most : ℕ) (s : List ℕ) (at : ℕ) → at < length s → ConstantPast s at (markedAt k base size most s (at + 1))
-unfolding markedAt
-marked-past k base size most s at h =
-    by-case (ConstantPast s at) (ltb (at + 1) (runEnd k s (at + 1)) && leb (runEnd k s (at + 1)) (at + 1 + most))
-    (λ t. omega (arith, digits-between (at + 1) (runEnd k s (at + 1)) most t, within k s (at + 1) (omega arith)))
-    (λ t. tt)
-
-of-decimal : (s : List ℕ) (at : ℕ) (n : Number) → NumberPast s at n → ConstantPast s at (ofDecimal n)
-unfolding ofDecimal
-of-decimal s at (Plain v p) h = h
-of-decimal s at Unread h = tt
-
-pub constant-past : (s : List ℕ) (at : ℕ) {x : Constant} → constantAt s at ≡ x → ConstantPast s at x
-unfolding constantAt
-constant-past s at e =
-    subst (ConstantPast s at) e
-    (by-case (ConstantPast s at) (eqb (getD s at 0) binaryMark)
-    (λ t. marked-past Binary 2 1 binaryDigits s at (present s at binaryMark (eqb-true (getD s at 0) binaryMark t) (omega arith)))
-    (λ t.
-    by-case (ConstantPast s at) (eqb (getD s at 0) octalMark)
-    (λ u. marked-past Octal 8 3 octalDigits s at (present s at octalMark (eqb-true (getD s at 0) octalMark u) (omega arith)))
-    (λ u. of-decimal s at (decimalAt s at) (number-past s at))))
 
 -- bit numbers, one of which was read from z on: the `>` behind it, a second one, and a first one with what follows
 module _ (s : List ℕ) (at z : ℕ) (h : at ≤ z) where
@@ -137,7 +76,7 @@ first-past s at z h (Plain a q) o =
     by-case (SpanPast s at) (eqb (next s q) colon)
     (λ u.
     let y = skip s (skip s q + 1) in
-    second-past s at y (omega (arith, onward Space s q, onward Space s (skip s q + 1))) a (decimalAt s y) (number-past s y))
+    second-past s at y (omega (arith, onward Space s q, onward Space s (skip s q + 1))) a (decimalAt s y) (decimal-past s y refl))
     (λ u. tt))
 first-past s at z h Unread o = tt
 
@@ -180,7 +119,7 @@ module _ (rs : List Named) (s : List ℕ) (at : ℕ) where
       by-case (ReferencePast s at) (eqb (next s end) angleOpen)
       (λ u.
       part-past s at named (widthIn rs named) (firstBit s (decimalAt s z))
-      (first-past s at z (omega (arith, onward Space s end, onward Space s (skip s end + 1))) (decimalAt s z) (number-past s z)))
+      (first-past s at z (omega (arith, onward Space s end, onward Space s (skip s end + 1))) (decimalAt s z) (decimal-past s z refl)))
       (λ u. o))
       (λ t. tt))
 

@@ -25,7 +25,7 @@ use Rattle.text_tokens.specs.Signs.{squareClose}
 use Rattle.text_code.specs.Readings.{Reading, read, outside, limited, closed, notOf, rotationOf, joined}
 use Rattle.text_code.specs.Code.{codeOf}
 use Rattle.text_code.specs.Met.{Held, Meets, Made, Behind, Combined, UnderNot}
-use Rattle.text_bit_parts.proofs.Onward.{Past}
+use Rattle.text_constants.proofs.Places.{Past}
 use Rattle.text_code.proofs.Parts.{met, behind, over, over-both, is-limited, too-wide}
 
 -- brackets: the closing byte stands next or not, and it is the square one or the round one

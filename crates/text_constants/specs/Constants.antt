@@ -1,5 +1,6 @@
 -- Constants: "`'` with 1 to 16 binary digits, one bit each; `#` with 1 to 5 octal digits, three bits each; decimal 0 to 32767 without
--- leading zeros, one bit longer than its shortest form (0 has 2, 15 has 5)". Each is read at a place of a text, on whatever stands there.
+-- leading zeros, one bit longer than its shortest form (0 has 2, 15 has 5)". Each is read at a place of a line, on whatever stands there. Numerals says the same apart from
+-- how it is read.
 -- Assumes nothing.
 use Prim.Native.Nat.{ℕ, zero, suc, _+_, _-_, _*_, _%_}
 use mathlib.Core.Bool.{Bool, true, false, not, _&&_, _||_}
@@ -20,6 +21,15 @@ use Rattle.text_constants.specs.declared.Constant.the-variants.{Found, M
 unfoldable pub numberAt : ℕ → List ℕ → ℕ → ℕ → ℕ → ℕ
 numberAt base s at zero v = v
 numberAt base s at (suc n) v = numberAt base s (at + 1) n (v * base + getD s at 0 % 16)
+
+-- the least number of bits, from n on, that hold v; f more are tried
+unfoldable pub shortestFrom : ℕ → ℕ → ℕ → ℕ
+shortestFrom zero n v = n
+shortestFrom (suc f) n v = elim (fits n v) [ true ↦ n | false ↦ shortestFrom f (n + 1) v ]
+
+-- the bits of a decimal's "shortest form": 1 to 15
+abbrev pub shortest : ℕ → ℕ
+shortest v = shortestFrom 14 1 v
 
 -- the marks `'` and `#`
 abbrev pub binaryMark : ℕ
@@ -64,15 +74,6 @@ markedAt k base size most s at =
       | true ↦ Found (numberAt base s at (runEnd k s at - at) 0) (size * (runEnd k s at - at)) (runEnd k s at)
       | false ↦ Missing
     ]
-
--- the least number of bits, from n on, that hold v; f more are tried
-unfoldable pub shortestFrom : ℕ → ℕ → ℕ → ℕ
-shortestFrom zero n v = n
-shortestFrom (suc f) n v = elim (fits n v) [ true ↦ n | false ↦ shortestFrom f (n + 1) v ]
-
--- the bits of a decimal's "shortest form": 1 to 15
-abbrev pub shortest : ℕ → ℕ
-shortest v = shortestFrom 14 1 v
 
 -- "one bit longer than its shortest form"
 unfoldable pub ofDecimal : Number → Constant

@@ -1,1 +1,4 @@
 pub mod Constants
+pub mod Numerals
+pub mod Sizes
+pub mod Worked

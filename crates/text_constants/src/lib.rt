@@ -1,9 +1,12 @@
 // Constants, read straight from the line: binary and octal ones behind their marks, and decimals.
 use characters::Class;
 ghost use mathlib.Core.Path.{_≡_};
+ghost use lib.Dec.{leb};
 ghost use lib.ListN.{length};
-ghost use Prim.Native.Nat.{_+_, _-_, _*_, _≤_};
-ghost use Rattle.text_constants.specs.Constants.{binaryDigits, octalDigits, numberAt, decimalAt, markedAt, shortest, constantAt, ofDecimal};
+ghost use Prim.Native.Nat.{_+_, _≤_};
+ghost use Rattle.word.specs.Choice.{pick};
+ghost use Rattle.text_constants.specs.Constants.{numberAt, decimalAt, markedAt, shortest, constantAt, ofDecimal};
+ghost use Rattle.text_constants.specs.Sizes.{Sized};
 
 // "1 to 16 binary digits", "1 to 5 octal digits", "decimal 0 to 32767", which has at most 5 digits.
 const BINARY_DIGITS: usize = 16;
@@ -71,37 +74,26 @@ pub fn decimal_at(s: &[u8], at: usize) -> Number
     Number::Unread
 }
 
-// The binary constant whose digits begin at a place.
-fn binary_at(s: &[u8], at: usize) -> Constant
-    requires { ⌜ at ≤ length (now s) ⌝ }
-    ensures { λ r. ⌜ r ≡ markedAt Class.Binary 2 1 binaryDigits (now (s .entry)) at ⌝ }
+// How many of n digits count: all of them, or none where they are more than `most`.
+fn counted(n: usize, most: usize) -> usize
+    ensures { λ r. ⌜ r ≡ pick (leb n most) n 0 ⌝ }
 {
-    let end = characters::run_end(s, at, Class::Binary);
-    if (at < end) & (end <= at + BINARY_DIGITS) {
-        Constant::Found {
-            value: digits_value(s, at, end - at, 2) as u16,
-            width: (end - at) as u16,
-            place: end,
-        }
-    } else {
-        Constant::Missing
-    }
+    if n <= most { n } else { 0 }
 }
 
-// The octal constant whose digits begin at a place.
-fn octal_at(s: &[u8], at: usize) -> Constant
-    requires { ⌜ at ≤ length (now s) ⌝ }
-    ensures { λ r. ⌜ r ≡ markedAt Class.Octal 8 3 octalDigits (now (s .entry)) at ⌝ }
+// The constant whose digits begin at a place, behind its mark: 1 to `most` digits of a class, of `size` bits each.
+fn marked_at(s: &[u8], at: usize, class: Class, base: u64, size: usize, most: usize) -> Constant
+    requires { ⌜ Sized class base size most ⌝ }
+    ensures { λ r. ⌜ r ≡ markedAt class base size most (now (s .entry)) at ⌝ }
 {
-    let end = characters::run_end(s, at, Class::Octal);
-    if (at < end) & (end <= at + OCTAL_DIGITS) {
-        Constant::Found {
-            value: digits_value(s, at, end - at, 8) as u16,
-            width: (3 * (end - at)) as u16,
-            place: end,
-        }
-    } else {
-        Constant::Missing
+    let n = counted(characters::run_end(s, at, class) - at, most);
+    if n == 0 {
+        return Constant::Missing;
+    }
+    Constant::Found {
+        value: digits_value(s, at, n, base) as u16,
+        width: (size * n) as u16,
+        place: at + n,
     }
 }
 
@@ -144,10 +136,10 @@ pub fn constant_at(s: &[u8], at: usize) -> Constant
     }
     let mark = s[at];
     if mark == b'\'' {
-        return binary_at(s, at + 1);
+        return marked_at(s, at + 1, Class::Binary, 2, 1, BINARY_DIGITS);
     }
     if mark == b'#' {
-        return octal_at(s, at + 1);
+        return marked_at(s, at + 1, Class::Octal, 8, 3, OCTAL_DIGITS);
     }
     from_decimal(decimal_at(s, at))
 }

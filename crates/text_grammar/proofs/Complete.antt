@@ -24,7 +24,8 @@ use Rattle.text_tokens.specs.Signs.{roundOpen, roundClose, squareOpen, squareCl
 use Rattle.text_bit_parts.specs.References.{referenceAt}
 use Rattle.text_bit_parts.specs.declared.Reference.the-variants.{Whole, Part}
 use Rattle.text_bit_parts.proofs.Refers.{refers-read}
-use Rattle.text_bit_parts.proofs.Onward.{Past, word-of-letter, letters-past, decimal-past, constant-past, reference-past, operator-inside, operator-past}
+use Rattle.text_bit_parts.proofs.Onward.{word-of-letter, letters-past, reference-past, operator-inside, operator-past}
+use Rattle.text_constants.proofs.Places.{Past, decimal-past, constant-past}
 use Rattle.text_code.specs.Tree.{Expr, register, bitPart, constant, memory, complemented, rotated, binary, width, largestCount}
 use Rattle.text_code.specs.Readings.{Reading, read, outside, limited, ofReference, ofConstant, notOf, closed, inside, rotationOf, joined}
 use Rattle.text_grammar.specs.Says.{operator, strength, Name, Says, stronger, operates, rotates, complements, encloses, fetches, is-register, is-part, is-constant}

@@ -1,24 +1,23 @@
 -- What a token tells: closing brackets are no operators, the words Not and M begin with a letter, and a constant begins neither with a letter nor with a parenthesis.
 -- And words as compared.
 -- Assumes nothing.
-use mathlib.Core.Path.{_≡_, refl, sym, ap, subst, _∙_}
-use mathlib.Core.Bool.{true, false, false≢true, _&&_}
+use mathlib.Core.Path.{_≡_, refl, sym, ap, _∙_}
+use mathlib.Core.Bool.{true, false, false≢true}
 use mathlib.Core.List.{List}
-use Prim.Native.Nat.{ℕ, _+_, _-_, _≤_}
+use Prim.Native.Nat.{ℕ, _≤_, _<_}
 use native.Mathlib.Omega.{arith}
-use lib.Dec.{eqb, leb}
-use lib.ListN.{getD}
-use borrow.Author.Tests.{leb-true, lt-leb, eqb-true}
-use Rattle.laws.proofs.Tests.{by-test, by-case}
+use lib.Dec.{leb}
+use lib.ListN.{getD, drop}
+use borrow.Author.Tests.{leb-true, lt-leb}
+use Rattle.laws.proofs.Tests.{by-test}
 use Rattle.laws.proofs.Joined.{and-left, and-right}
 use Rattle.characters.specs.Ascii.{ascii, digit}
-use Rattle.characters.specs.Characters.{isDigit, isLetter, runEnd, same}
-use Rattle.characters.specs.declared.Class.the-variants.{Word, Binary, Octal, Decimal}
+use Rattle.characters.specs.Characters.{isDigit, isLetter, same}
 use Rattle.characters.proofs.Strings.{equal}
-use Rattle.text_constants.specs.Constants.{binaryMark, octalMark, binaryDigits, octalDigits, largest, isPlain, numberAt, decimalAt, markedAt, ofDecimal, constantAt}
-use Rattle.text_constants.specs.declared.Number.{Number}
-use Rattle.text_constants.specs.declared.Constant.{Constant}
-use Rattle.text_constants.specs.declared.Constant.the-variants.{Found, Missing}
+use Rattle.text_constants.specs.Constants.{binaryMark, octalMark, constantAt}
+use Rattle.text_constants.specs.Numerals.{IsConstant, binary, octal, decimal}
+use Rattle.text_constants.specs.declared.Constant.the-variants.{Found}
+use Rattle.text_constants.proofs.Numerals.{mark-stands, digit-stands, constant-said}
 use Rattle.text_operators.specs.Operators.{entryIn}
 use Rattle.text_operators.specs.OperatorNames.{operatorRow, findIn}
 use Rattle.text_tokens.specs.Tokens.{next, token, operatorAt}
@@ -70,44 +69,22 @@ pub no-open : (x : ℕ) → isLetter x ≡ true → x ≡ roundOpen → ⊥
 no-open x e o = false≢true (sym (ap isLetter o) ∙ e)
 
 -- a constant's first byte is a mark or a digit
-abbrev First : ℕ → Constant → Type 0
-First b (Found v w p) = (b ≡ roundOpen → ⊥) × (isLetter b ≡ false)
-First b Missing = Unit {0}
+abbrev First : ℕ → Type 0
+First b = (b ≡ roundOpen → ⊥) × (isLetter b ≡ false)
 
-digit-first : (b : ℕ) → isDigit b ≡ true → (b ≡ roundOpen → ⊥) × (isLetter b ≡ false)
+mark-first : (b mark : ℕ) → mark < roundOpen → isLetter mark ≡ false → b ≡ mark → First b
+mark-first b mark l n e = ((λ o. omega (arith, o, e)), ap isLetter e ∙ n)
+
+digit-first : (b : ℕ) → isDigit b ≡ true → First b
 digit-first b e =
     let h : b ≤ digit 9 = leb-true b (digit 9) (and-right (leb (digit 0) b) (leb b (digit 9)) e) in
     let l : digit 0 ≤ b = leb-true (digit 0) b (and-left (leb (digit 0) b) (leb b (digit 9)) e) in
     ((λ o. omega (arith, o, l)), rw (lt-leb 65 b (omega (arith, h)), lt-leb 97 b (omega (arith, h))))
 
-any-first : (b : ℕ) (x : Constant) → (b ≡ roundOpen → ⊥) × (isLetter b ≡ false) → First b x
-any-first b (Found v w p) h = h
-any-first b Missing h = tt
+is-first : (s : List ℕ) (i : ℕ) {v w p : ℕ} → IsConstant (drop i s) i v w p → First (getD s i 0)
+is-first s i (binary h) = mark-first (getD s i 0) binaryMark (omega arith) refl (mark-stands s i h)
+is-first s i (octal h) = mark-first (getD s i 0) octalMark (omega arith) refl (mark-stands s i h)
+is-first s i (decimal h g) = digit-first (getD s i 0) (digit-stands s i h)
 
-decimal-first : (s : List ℕ) (i : ℕ) → First (getD s i 0) (ofDecimal (decimalAt s i))
-unfolding decimalAt ofDecimal
-decimal-first s i =
-    let b = getD s i 0 in
-    let plain = isPlain b i (runEnd Decimal s i) (runEnd Word s i) in
-    by-case (λ (n : Number). First b (ofDecimal n)) (isDigit b && plain)
-    (λ t.
-    by-case (λ (n : Number). First b (ofDecimal n)) (leb (numberAt 10 s i (runEnd Word s i - i) 0) largest)
-    (λ u. digit-first b (and-left (isDigit b) plain t))
-    (λ u. tt))
-    (λ t. tt)
-
-pub constant-first : (s : List ℕ) (i : ℕ) {v w p : ℕ} → constantAt s i ≡ Found v w p → (getD s i 0 ≡ roundOpen → ⊥) × (isLetter (getD s i 0) ≡ false)
-unfolding constantAt
-constant-first s i e =
-    let b = getD s i 0 in
-    subst (First b) e
-    (by-case (First b) (eqb b binaryMark)
-    (λ t.
-    let m = eqb-true b binaryMark t in
-    any-first b (markedAt Binary 2 1 binaryDigits s (i + 1)) ((λ o. omega (arith, o, m)), ap isLetter m))
-    (λ t.
-    by-case (First b) (eqb b octalMark)
-    (λ u.
-    let m = eqb-true b octalMark u in
-    any-first b (markedAt Octal 8 3 octalDigits s (i + 1)) ((λ o. omega (arith, o, m)), ap isLetter m))
-    (λ u. decimal-first s i)))
+pub constant-first : (s : List ℕ) (i : ℕ) {v w p : ℕ} → constantAt s i ≡ Found v w p → First (getD s i 0)
+constant-first s i e = is-first s i (constant-said s i e)

@@ -1,24 +1,22 @@
 -- What is said stops at a token's end, and there are only whole tokens in it, with spaces between them.
 -- Assumes nothing.
-use mathlib.Core.Path.{_≡_, subst}
+use mathlib.Core.Path.{_≡_, refl, subst, _∙_}
 use mathlib.Core.Bool.{true, _&&_}
 use mathlib.Core.List.{List, [], _∷_}
 use Prim.Native.Nat.{ℕ, _+_, _-_, _≤_, _<_}
 use native.Mathlib.Omega.{arith}
 use lib.Dec.{eqb, leb, ltb}
-use lib.ListN.{length, getD}
+use lib.ListN.{length, drop}
 use borrow.Author.Tests.{eqb-true}
 use Rattle.laws.proofs.Tests.{by-case}
-use Rattle.laws.proofs.Joined.{and-left}
 use Rattle.laws.proofs.Lists.{present}
-use Rattle.characters.specs.Characters.{isDigit, isLetter, isWord, runEnd}
+use Rattle.characters.specs.Characters.{isLetter, isWord}
 use Rattle.characters.specs.Named.{Named, find}
-use Rattle.characters.specs.declared.Class.the-variants.{Word, Binary, Octal, Decimal}
-use Rattle.text_constants.specs.Constants.{binaryMark, octalMark, binaryDigits, octalDigits, largest, isPlain, numberAt, decimalAt, markedAt, ofDecimal, constantAt}
+use Rattle.text_constants.specs.Constants.{binaryMark, octalMark, decimalAt}
+use Rattle.text_constants.specs.Numerals.{IsDecimal, IsConstant, binary, octal, decimal}
 use Rattle.text_constants.specs.declared.Number.{Number}
 use Rattle.text_constants.specs.declared.Number.the-variants.{Plain, Unread}
-use Rattle.text_constants.specs.declared.Constant.{Constant}
-use Rattle.text_constants.specs.declared.Constant.the-variants.{Found, Missing}
+use Rattle.text_constants.proofs.Numerals.{mark-stands, marked-end, word-of-digit, digit-stands, decimal-end, decimal-said, constant-said}
 use Rattle.text_operators.specs.Operators.{rotations}
 use Rattle.text_tokens.specs.Tokens.{skip, next, slice, tokenEnd, afterToken}
 use Rattle.text_tokens.specs.Signs.{roundOpen, roundClose, squareOpen, squareClose, angleOpen, angleClose, colon}
@@ -29,7 +27,7 @@ use Rattle.text_bit_parts.specs.declared.Span.the-variants.{Bits, Bad}
 use Rattle.text_bit_parts.specs.declared.Reference.{Reference}
 use Rattle.text_bit_parts.specs.declared.Reference.the-variants.{Whole, Part, Unknown}
 use Rattle.text_bit_parts.proofs.Refers.{refers-read}
-use Rattle.text_bit_parts.proofs.Onward.{word-of-digit, word-of-letter, word-past, operator-inside}
+use Rattle.text_bit_parts.proofs.Onward.{word-of-letter, word-past, operator-inside}
 use Rattle.text_code.specs.Tree.{Expr}
 use Rattle.text_grammar.specs.Says.{Says, stronger, operates, rotates, complements, encloses, fetches, is-register, is-part, is-constant}
 use Rattle.text_tokens.specs.Tokens as tokens
@@ -69,46 +67,27 @@ module _ (s : List ℕ) where
     NumberTo (Plain v p) = Reaches s at p
     NumberTo Unread = Unit {0}
 
+    is-decimal-to : (q : ℕ) → Reaches s at q → {v p : ℕ} → IsDecimal (drop (skip s q) s) (skip s q) v p → Reaches s at p
+    is-decimal-to q h d = subst (Reaches s at) (decimal-end s (skip s q) d) (word-to q h (word-of-digit (next s q) (digit-stands s (skip s q) d)))
+
     decimal-to : (q : ℕ) → Reaches s at q → NumberTo (decimalAt s (skip s q))
-    unfolding decimalAt
-    decimal-to q h =
-        let i = skip s q in
-        let plain = isPlain (getD s i 0) i (runEnd Decimal s i) (runEnd Word s i) in
-        by-case NumberTo (isDigit (getD s i 0) && plain)
-        (λ t.
-        by-case NumberTo (leb (numberAt 10 s i (runEnd Word s i - i) 0) largest)
-        (λ u. word-to q h (word-of-digit (getD s i 0) (and-left (isDigit (getD s i 0)) plain t)))
-        (λ u. tt))
-        (λ t. tt)
+    decimal-to q h = number-to (decimalAt s (skip s q)) refl
+      where
+        number-to : (n : Number) → decimalAt s (skip s q) ≡ n → NumberTo n
+        number-to (Plain v p) e = is-decimal-to q h (decimal-said s (skip s q) e)
+        number-to Unread e = tt
 
     -- a constant
-    abbrev ConstantTo : Constant → Type 0
-    ConstantTo (Found v w p) = Reaches s at p
-    ConstantTo Missing = Unit {0}
-
-    of-decimal : (n : Number) → NumberTo n → ConstantTo (ofDecimal n)
-    unfolding ofDecimal
-    of-decimal (Plain v p) h = h
-    of-decimal Unread h = tt
-
-    constant-to : (q : ℕ) → Reaches s at q → ConstantTo (constantAt s (skip s q))
-    unfolding constantAt markedAt
-    constant-to q h =
+    constant-to : (q : ℕ) → Reaches s at q → {v w p : ℕ} → IsConstant (drop (skip s q) s) (skip s q) v w p → Reaches s at p
+    constant-to q h (binary d) =
         let i = skip s q in
-        by-case ConstantTo (eqb (getD s i 0) binaryMark)
-        (λ t.
-        let e = eqb-true (getD s i 0) binaryMark t in
-        by-case ConstantTo (ltb (i + 1) (runEnd Binary s (i + 1)) && leb (runEnd Binary s (i + 1)) (i + 1 + binaryDigits))
-        (λ u. one-more h (present s i binaryMark e (omega arith)) (binary-end s i e))
-        (λ u. tt))
-        (λ t.
-        by-case ConstantTo (eqb (getD s i 0) octalMark)
-        (λ v.
-        let e = eqb-true (getD s i 0) octalMark v in
-        by-case ConstantTo (ltb (i + 1) (runEnd Octal s (i + 1)) && leb (runEnd Octal s (i + 1)) (i + 1 + octalDigits))
-        (λ u. one-more h (present s i octalMark e (omega arith)) (octal-end s i e))
-        (λ u. tt))
-        (λ v. of-decimal (decimalAt s i) (decimal-to q h)))
+        let e = mark-stands s i d in
+        one-more h (present s i binaryMark e (omega arith)) (binary-end s i e ∙ marked-end s i d)
+    constant-to q h (octal d) =
+        let i = skip s q in
+        let e = mark-stands s i d in
+        one-more h (present s i octalMark e (omega arith)) (octal-end s i e ∙ marked-end s i d)
+    constant-to q h (decimal d g) = is-decimal-to q h d
 
     -- a name, or a bit part
     abbrev SpanTo : Span → Type 0
@@ -172,4 +151,4 @@ module _ (rs : List Named) (s : List ℕ) where
       sign-to s at q squareClose square-close (onward-to s (sign-to s at (afterToken s at) squareOpen square-open m e) (says-reaches h (omega arith))) c
   says-reaches (is-register {at = at} n g w) o = subst (ReferenceTo s at) (refers-read rs s (skip s at) g) (reference-to s at rs at nothing (word-of-letter (next s at) (n .letter)))
   says-reaches (is-part {at = at} n g w) o = subst (ReferenceTo s at) (refers-read rs s (skip s at) g) (reference-to s at rs at nothing (word-of-letter (next s at) (n .letter)))
-  says-reaches (is-constant {at = at} g w) o = subst (ConstantTo s at) g (constant-to s at at nothing)
+  says-reaches (is-constant {at = at} g w) o = constant-to s at at nothing (constant-said s (skip s at) g)

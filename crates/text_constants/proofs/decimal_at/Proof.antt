@@ -1,32 +1,33 @@
 -- `text_constants::decimal_at`: the tests of its definition, in its order.
-use mathlib.Core.Path.{_≡_, sym}
+use mathlib.Core.Path.{_≡_, sym, ap, _∙_}
 use mathlib.Core.Bool.{Bool, true, not, _&&_, _||_}
 use Prim.Native.Nat.{ℕ, _+_, _-_, _≤_, _<_}
 use native.Mathlib.Omega.{arith}
-use borrow.Author.Tests.{leb-true, le-leb, lt-leb}
+use borrow.Author.Tests.{leb-true}
 use lib.Dec.{eqb, leb}
 use lib.ListN.{length, getD}
+use Rattle.characters.specs.Ascii.{digit}
 use Rattle.characters.specs.Characters.{runEnd}
-use Rattle.text_constants.specs.Constants.{numberAt, decimalDigits, largest, isPlain, decimalAt}
+use Rattle.text_constants.specs.Constants.{numberAt, decimalDigits}
 use Rattle.characters.specs.declared.Class.the-variants.{Word}
+use Rattle.text_constants.specs.declared.Number.the-variants.{Plain}
 use Rattle.characters.proofs.Runs.{after-start, before-end}
-use Rattle.text_constants.proofs.Digits.{no-decimal}
+use Rattle.text_constants.proofs.Digits.{decimal-found, decimal-large, decimal-none, decimal-past-end}
 use Rattle.laws.proofs.Joined.{and-left, and-right}
 use borrow.Author.Needs.{needs}
 use Rattle.text_constants.proofs.decimal_at.Statement.{statement}
 use Rattle.text_constants.proofs.decimal_at.Tie as tie
 
--- a decimal that is not too long
-upper : (d : Bool) (at digits end first : ℕ) → d && isPlain first at digits end ≡ true → end ≤ at + decimalDigits
-upper d at digits end first t =
+-- a decimal that is not too long, whatever else is asked of it
+upper : (a b z : Bool) (at end : ℕ) → a && (b && leb end (at + decimalDigits) && z) ≡ true → end ≤ at + decimalDigits
+upper a b z at end t =
     leb-true end (at + decimalDigits)
-    (and-right (eqb digits end) (leb end (at + decimalDigits))
-    (and-left (eqb digits end && leb end (at + decimalDigits)) (not (eqb first 48) || eqb end (at + 1)) (and-right d (isPlain first at digits end) t)))
+    (and-right b (leb end (at + decimalDigits)) (and-left (b && leb end (at + decimalDigits)) z (and-right a (b && leb end (at + decimalDigits) && z) t)))
 
 returns : tie.Need-returns
 returns c =
     let a = c .before .before .args in
-    sym (no-decimal (a .s .now) (a .at) (c .if1 .taken))
+    sym (decimal-past-end (a .s .now) (a .at) (c .if1 .taken))
 
 shared-slice-read-first : tie.Need-shared-slice-read-first
 shared-slice-read-first c = search needs
@@ -50,45 +51,46 @@ sub-digits-value : tie.Need-sub-digits-value
 sub-digits-value c =
     let a = c .before .before .before .before .before .before .before .args in
     let end = c .before .before .before .run-end in
-    after-start Word (a .s .now) (a .at) (end .result) (end .ensures)
+    after-start _ (a .s .now) (a .at) (end .result) (end .ensures)
 
 digits-value-requires : tie.Need-digits-value-requires
 digits-value-requires c κs =
     let a = c .before .before .before .before .before .before .before .args in
     let end = c .before .before .before .run-end in
     let start : a .at < length (a .s .now) = c .before .before .before .before .before .if1 .left in
-    let onward = after-start Word (a .s .now) (a .at) (end .result) (end .ensures) in
-    let within = before-end Word (a .s .now) (a .at) (end .result) (end .ensures) (omega arith) in
-    let few = upper (c .before .is-digit .result) (a .at) (c .before .before .run-end2 .result) (end .result) (getD (a .s .now) (a .at) 0) (c .if2 .taken) in
+    let onward = after-start _ (a .s .now) (a .at) (end .result) (end .ensures) in
+    let within = before-end _ (a .s .now) (a .at) (end .result) (end .ensures) (omega arith) in
+    let few =
+    upper (c .before .is-digit .result) (eqb (c .before .before .run-end2 .result) (end .result))
+    (not (eqb (getD (a .s .now) (a .at) 0) (digit 0)) || eqb (end .result) (a .at + 1)) (a .at) (end .result) (c .if2 .taken) in
     omega arith
 
 cast-t21 : tie.Need-cast-t21
 cast-t21 c = search needs
 
 returns-2 : tie.Need-returns-2
-unfolding decimalAt
 returns-2 c =
     let a = c .before .before .before .before .before .before .before .before .before .args in
     let end = c .before .before .before .before .before .run-end .ensures in
-    let value = c .before .digits-value .ensures in
     let t = rw (c .before .before .before .is-digit .ensures, c .before .before .before .before .run-end2 .ensures, end) at (c .before .before .if2 .taken) in
-    let u = le-leb (numberAt 10 (a .s .now) (a .at) (runEnd Word (a .s .now) (a .at) - a .at) 0) largest (rw (value, end) at (c .if3 .taken)) in
-    rw (value, end, t, u, decimalAt)
+    let value = c .before .digits-value .ensures ∙ ap (λ (e : ℕ). numberAt 10 (a .s .now) (a .at) (e - a .at) 0) end in
+    ap (λ (p : ℕ). Plain (c .before .digits-value .result) p) end
+    ∙ ap (λ (v : ℕ). Plain v (runEnd Word (a .s .now) (a .at))) value
+    ∙ sym (decimal-found (a .s .now) (a .at) t (omega (arith, value, c .if3 .taken)))
 
 returns-3 : tie.Need-returns-3
-unfolding decimalAt
 returns-3 c =
     let a = c .before .before .before .before .before .before .before .before .before .args in
     let end = c .before .before .before .before .before .run-end .ensures in
     let t = rw (c .before .before .before .is-digit .ensures, c .before .before .before .before .run-end2 .ensures, end) at (c .before .before .if2 .taken) in
-    let u = lt-leb (numberAt 10 (a .s .now) (a .at) (runEnd Word (a .s .now) (a .at) - a .at) 0) largest (rw (c .before .digits-value .ensures, end) at (c .if3 .left)) in
-    rw (t, u, decimalAt)
+    let value = c .before .digits-value .ensures ∙ ap (λ (e : ℕ). numberAt 10 (a .s .now) (a .at) (e - a .at) 0) end in
+    sym (decimal-large (a .s .now) (a .at) t (omega (arith, value, c .if3 .left)))
 
 returns-4 : tie.Need-returns-4
-unfolding decimalAt
 returns-4 c =
+    let a = c .before .before .before .before .before .before .before .args in
     let t = rw (c .before .is-digit .ensures, c .before .before .run-end2 .ensures, c .before .before .before .run-end .ensures) at (c .if2 .left) in
-    rw (t, decimalAt)
+    sym (decimal-none (a .s .now) (a .at) t)
 
 pub decimal-at-spec : {M : Type 1} → statement M
 decimal-at-spec =

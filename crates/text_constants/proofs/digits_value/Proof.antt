@@ -36,7 +36,7 @@ mul-v : tie.Need-mul-v Inv-loop μ-loop
 mul-v c =
     let a = c .before .before .args in
     let l = c .before .loop in
-    let next = next-lt (l .left) (l .v) (a .base) 0 (c .loop-test .taken) (omega arith) (l .inv .2) (c .before .before .pre .1 .1) (omega arith) in
+    let next = next-lt (l .left) (l .v) (a .base) 0 (omega (arith, c .loop-test .taken)) (omega arith) (l .inv .2) (c .before .before .pre .1 .1) (omega arith) in
     record { fits = omega (arith, small (l .left)) }
 
 shared-slice-read-v : tie.Need-shared-slice-read-v Inv-loop μ-loop
@@ -50,7 +50,7 @@ add-v c =
     let a = c .before .before .before .args in
     let l = c .before .before .loop in
     let digit = getD (a .s .now) (l .i) 0 % 16 in
-    let next = next-lt (l .left) (l .v) (a .base) digit (c .before .loop-test .taken) (omega arith) (l .inv .2) (c .before .before .before .pre .1 .1) (omega arith) in
+    let next = next-lt (l .left) (l .v) (a .base) digit (omega (arith, c .before .loop-test .taken)) (omega arith) (l .inv .2) (c .before .before .before .pre .1 .1) (omega arith) in
     record { fits = omega (arith, small (l .left)) }
 
 add-i : tie.Need-add-i Inv-loop μ-loop
@@ -67,14 +67,14 @@ loop-again c =
     let a = c .before .before .before .args in
     let l = c .before .before .loop in
     let digit = getD (a .s .now) (l .i) 0 % 16 in
-    let next = next-lt (l .left) (l .v) (a .base) digit (c .before .loop-test .taken) (omega arith) (l .inv .2) (c .before .before .before .pre .1 .1) (omega arith) in
-    (omega arith, omega arith, next, l .inv .3 ∙ more-digits (a .base) (a .s .now) (l .i) (l .left) (l .v) (c .before .loop-test .taken))
+    let next = next-lt (l .left) (l .v) (a .base) digit (omega (arith, c .before .loop-test .taken)) (omega arith) (l .inv .2) (c .before .before .before .pre .1 .1) (omega arith) in
+    (omega arith, omega arith, next, l .inv .3 ∙ more-digits (a .base) (a .s .now) (l .i) (l .left) (l .v) (omega (arith, c .before .loop-test .taken)))
 
 returns : tie.Need-returns Inv-loop μ-loop
 returns c =
     let a = c .before .before .args in
     let l = c .before .loop in
-    sym (l .inv .3 ∙ no-digits (a .base) (a .s .now) (l .i) (l .left) (l .v) (c .loop-test .left))
+    sym (l .inv .3 ∙ no-digits (a .base) (a .s .now) (l .i) (l .left) (l .v) (omega (arith, c .loop-test .left)))
 
 pub digits-value-spec : {M : Type 1} → statement M
 digits-value-spec =

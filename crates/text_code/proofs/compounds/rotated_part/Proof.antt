@@ -11,7 +11,7 @@ use Rattle.text_constants.specs.declared.Number.{Number}
 use Rattle.characters.specs.declared.Class.the-variants.{Space}
 use Rattle.characters.proofs.Runs.{onward}
 use Rattle.text_tokens.specs.Tokens.{skip}
-use Rattle.text_bit_parts.proofs.Onward.{decimal-past}
+use Rattle.text_constants.proofs.Places.{decimal-past}
 use Rattle.text_code.proofs.Making.{rotates, large-count, no-count}
 use borrow.Author.Needs.{needs}
 use Rattle.text_code.proofs.compounds.rotated_part.Statement.{statement}

@@ -12,7 +12,7 @@ use Rattle.text_code.specs.Tree.{constant}
 use Rattle.text_code.specs.Readings.{ofConstant}
 use Rattle.text_code.specs.Code.{codeOf}
 use Rattle.text_code.specs.Met.{Leaf, Single}
-use Rattle.text_bit_parts.proofs.Onward.{constant-past}
+use Rattle.text_constants.proofs.Places.{constant-past}
 use Rattle.text_code.proofs.Parts.{no-leaf}
 use borrow.Author.Needs.{needs}
 use Rattle.text_code.proofs.leaves.constant_part.Statement.{statement}

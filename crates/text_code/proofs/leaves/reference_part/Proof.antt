@@ -11,7 +11,8 @@ use Rattle.text_names.specs.Dictionaries.{entries}
 use Rattle.text_bit_parts.specs.declared.Reference.{Reference}
 use Rattle.text_bit_parts.specs.declared.Reference.the-variants as reference
 use Rattle.text_bit_parts.specs.References.{referenceAt}
-use Rattle.text_bit_parts.proofs.Onward.{Past, reference-past, bits-known}
+use Rattle.text_bit_parts.proofs.Onward.{reference-past, bits-known}
+use Rattle.text_constants.proofs.Places.{Past}
 use Rattle.text_code.specs.declared.Cursor.{Cursor}
 use Rattle.text_code.specs.declared.Part.{Part}
 use Rattle.text_code.specs.declared.Part.the-variants.{Fault}

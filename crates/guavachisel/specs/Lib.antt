@@ -5,4 +5,5 @@ pub mod Evaluation
 pub mod DeviceEmulation
 pub mod DeviceEvaluation
 pub mod Shipping
+pub mod Constants
 pub mod Version

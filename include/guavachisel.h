@@ -5,6 +5,7 @@
  * - A pointer is valid for the length that stands behind it, or for the struct that it points to, and no two pointers of a call overlap (in C: restrict).
  *   NULL may stand only where the length is 0.
  * - It takes whatever else it is handed, always returns, and writes exactly one outcome. After a refusal everything but the outcome is as it came.
+ *   guavachisel_read_constant and guavachisel_version refuse nothing and write no outcome; the former writes exactly one constant instead.
  * - It keeps nothing between calls: threads may call it at the same time, each on its own data.
  * - It needs no more stack than GUAVACHISEL_STACK_.. says of it below, in bytes: by measurement with a margin, not by proof.
  */
@@ -33,6 +34,7 @@ extern "C" {
 #define GUAVACHISEL_STACK_EMULATE 4096
 #define GUAVACHISEL_STACK_EMULATE_DEVICES 4096
 #define GUAVACHISEL_STACK_READ 163840
+#define GUAVACHISEL_STACK_READ_CONSTANT 4096
 #define GUAVACHISEL_STACK_EVALUATE 180224
 #define GUAVACHISEL_STACK_EVALUATE_DEVICES 180224
 #define GUAVACHISEL_STACK_SHIPPED 4096
@@ -65,7 +67,7 @@ typedef struct {
     uint16_t values[GUAVACHISEL_REGISTERS];
 } guavachisel_registers;
 
-/* What every entry reports. What an entry doesn't speak of is 0. */
+/* What every entry reports that can refuse, and guavachisel_shipped. What an entry doesn't speak of is 0. */
 typedef struct {
     uint64_t refusal; /* 0, or one of guavachisel_refusal */
     uint64_t place;   /* of a refusal: the text's line, or the lowest offending place of memory or registers, from 0 */
@@ -77,6 +79,15 @@ typedef struct {
     uint64_t answer;  /* the length of a shipped description */
     uint64_t sum;     /* no entry speaks of it */
 } guavachisel_outcome;
+
+/* What guavachisel_read_constant finds; all 0 where no constant is there. */
+typedef struct {
+    uint64_t found;  /* 1 */
+    uint64_t value;  /* at most 65,535 */
+    uint64_t matter; /* a 1 bit for each place that matters: all of the width's */
+    uint64_t width;  /* in bits, 1 to 16 */
+    uint64_t after;  /* the place after it, from 0 */
+} guavachisel_constant;
 
 /* Why a run ended. */
 enum guavachisel_reason {
@@ -124,6 +135,13 @@ void guavachisel_emulate_devices(uint16_t *GUAVACHISEL_RESTRICT memory, size_t w
 
 /* Reads a description. Refusals 1 to 8. Speaks of refusal and place, which is the line, from 1. */
 void guavachisel_read(const uint8_t *GUAVACHISEL_RESTRICT text, size_t bytes, guavachisel_outcome *GUAVACHISEL_RESTRICT outcome);
+
+/*
+ * Reads the constant that starts at place `start` of `line`, from 0: `'` with 1 to 16 binary digits, `#` with 1 to 5 octal digits, or a decimal from 0 to 32767 without
+ * leading zeros. It looks only forward from there. Digits behind a mark are read as far as they go; a decimal is the whole run of letters, digits and dots. Where that
+ * is outside the rules, no shorter constant is taken for it: none is there, as at or past the line's end. The line may hold any bytes and have any length.
+ */
+void guavachisel_read_constant(const uint8_t *GUAVACHISEL_RESTRICT line, size_t bytes, uint64_t start, guavachisel_constant *GUAVACHISEL_RESTRICT constant);
 
 /*
  * Runs a description's rows for at most `budget` cycles, and lists the rows that acted in the last cycle, rising, in the first places of `rows`; later places

@@ -5,6 +5,7 @@ extern "C" {
     pub fn guavachisel_version() -> u64;
     pub fn guavachisel_emulate(memory: *mut u16, words: usize, machine: *mut u16, budget: u64, outcome: *mut u64);
     pub fn guavachisel_read(text: *const u8, bytes: usize, outcome: *mut u64);
+    pub fn guavachisel_read_constant(line: *const u8, bytes: usize, start: u64, constant: *mut u64);
     pub fn guavachisel_evaluate(
         text: *const u8,
         bytes: usize,
@@ -45,6 +46,9 @@ extern "C" {
     );
     pub fn guavachisel_shipped(which: u64, text: *mut u8, room: usize, outcome: *mut u64);
 }
+
+/// found, value, matter, width, after
+pub const CONSTANT_PLACES: usize = 5;
 
 /// refusal, place, steps, reason, rows, read, printed, answer, sum
 pub const OUTCOME_PLACES: usize = 9;

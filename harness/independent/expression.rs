@@ -1,7 +1,8 @@
 //! Expressions and destinations: from tokens to trees with widths, pieces and nesting counted.
 
+use crate::constants::constant;
 use crate::lines::decimal;
-use crate::tokens::{plain_constant, tokens, Token};
+use crate::tokens::{tokens, Token};
 
 /// The widest value.
 pub const WIDEST: u8 = 16;
@@ -197,7 +198,7 @@ impl<'a> Reader<'a> {
             }
             Token::Run(run) if run[0].is_ascii_digit() => {
                 self.piece()?;
-                let (value, width) = plain_constant(run)?;
+                let (value, width) = constant(run)?;
                 Some(Expression { kind: Kind::Constant(value), width })
             }
             Token::Run(name) => {

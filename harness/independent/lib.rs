@@ -1,7 +1,8 @@
 //! Documents 01 and 02 in plain Rust, written from the documents alone: it shares no code and no tables with the Rattle sources.
-//! `emulate`, `read` and `evaluate`, and the two with devices, answer as the C entries of include/guavachisel.h do; `listing` is
-//! the day listing, and `explain` the desk's program, which README.md and docs/DECISIONS.md describe.
+//! `emulate`, `read`, `read_constant` and `evaluate`, and the two with devices, answer as the C entries of include/guavachisel.h do;
+//! `listing` is the day listing, and `explain` the desk's program, which README.md and docs/DECISIONS.md describe.
 
+pub mod constants;
 pub mod description;
 pub mod devices;
 pub mod emulate;
@@ -21,6 +22,7 @@ pub mod state;
 pub mod tokens;
 pub mod watch;
 
+pub use constants::read_constant;
 pub use description::read;
 pub use emulate::emulate;
 pub use emulate_devices::emulate_devices;

@@ -16,9 +16,9 @@ fn outcome_devices([refusal, said, reason, rows, read, printed]: [u64; 6]) -> [u
     [refusal, place, steps, reason, rows, read, printed, 0, 0]
 }
 
-/// The input, which may be NULL where it has no bytes.
-unsafe fn input_of<'a>(input: *const u8, bytes: usize) -> &'a [u8] {
-    if bytes == 0 { &[] } else { from_raw_parts(input, bytes) }
+/// A line or an input, which may be NULL where it has no bytes.
+unsafe fn bytes_of<'a>(first: *const u8, bytes: usize) -> &'a [u8] {
+    if bytes == 0 { &[] } else { from_raw_parts(first, bytes) }
 }
 
 #[no_mangle]
@@ -31,6 +31,11 @@ pub unsafe extern "C" fn guavachisel_emulate(memory: *mut u16, words: usize, reg
 pub unsafe extern "C" fn guavachisel_read(text: *const u8, bytes: usize, outcome: &mut [u64; 9]) {
     let [refusal, line] = independent::read(from_raw_parts(text, bytes));
     *outcome = outcome_of(refusal, line, 0, 0);
+}
+
+#[no_mangle]
+pub unsafe extern "C" fn guavachisel_read_constant(line: *const u8, bytes: usize, start: u64, constant: &mut [u64; 5]) {
+    *constant = independent::read_constant(bytes_of(line, bytes), start);
 }
 
 #[no_mangle]
@@ -64,7 +69,7 @@ pub unsafe extern "C" fn guavachisel_emulate_devices(
     room: usize,
     outcome: &mut [u64; 9],
 ) {
-    let (memory, input, output) = (from_raw_parts_mut(memory, words), input_of(input, bytes), from_raw_parts_mut(output, room));
+    let (memory, input, output) = (from_raw_parts_mut(memory, words), bytes_of(input, bytes), from_raw_parts_mut(output, room));
     *outcome = outcome_devices(independent::emulate_devices(memory, machine, devices, budget, input, output));
 }
 
@@ -85,7 +90,7 @@ pub unsafe extern "C" fn guavachisel_evaluate_devices(
     outcome: &mut [u64; 9],
 ) {
     let (text, memory, rows) = (from_raw_parts(text, bytes), from_raw_parts_mut(memory, words), from_raw_parts_mut(rows, places));
-    let (input, output) = (input_of(input, input_bytes), from_raw_parts_mut(output, room));
+    let (input, output) = (bytes_of(input, input_bytes), from_raw_parts_mut(output, room));
     *outcome = outcome_devices(independent::evaluate_devices(text, memory, registers, budget, rows, input, output));
 }
 

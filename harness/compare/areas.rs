@@ -1,6 +1,8 @@
 //! The areas of the comparison, and how the cases of each are made from a seed.
 
 use crate::cases::{Case, EvaluateStart};
+use crate::constant_known::{self, KnownLine};
+use crate::constant_lines;
 use crate::damage::damage;
 use crate::device_edges::{self, DeviceEdge};
 use crate::device_starts::{self, of_twin, DeviceEvaluateStart, WORDS};
@@ -21,7 +23,7 @@ use std::sync::Arc;
 const FIRST_QUESTION: u64 = 4096 + questions::UNFIT as u64;
 
 /// An area's name, and how many cases of it one run tries.
-pub const AREAS: [(&str, u64); 19] = [
+pub const AREAS: [(&str, u64); 20] = [
     ("emulate", 50_000),
     ("emulate-state", 12_000),
     ("limits", 0),
@@ -41,6 +43,7 @@ pub const AREAS: [(&str, u64); 19] = [
     ("device-texts", 20_000),
     ("device-splits", 6_000),
     ("twin", 4_000),
+    ("constants", 40_000),
 ];
 
 pub struct Maker {
@@ -51,6 +54,8 @@ pub struct Maker {
     pub limits: Vec<Limit>,
     pub edges: Vec<Edge>,
     pub device_edges: Vec<DeviceEdge>,
+    /// Lines with known constants: the first cases of their area.
+    pub known_constants: Vec<KnownLine>,
     /// The library's description with devices.
     pub twin: Vec<u8>,
     twin_read: Option<Description>,
@@ -62,7 +67,8 @@ impl Maker {
         let program = |name, path: &str| Arc::new(Program { name, path: path.to_string(), shipped: shipped.clone(), twin: twin.clone() });
         let (listing, explain) = (program("listing", listing), program("explain", explain));
         let twin_read = description(&twin).ok();
-        Maker { seed, shipped, listing, explain, limits: limits(), edges: edges(), device_edges: device_edges::edges(), twin, twin_read }
+        let (device_edges, known_constants) = (device_edges::edges(), constant_known::lines());
+        Maker { seed, shipped, listing, explain, limits: limits(), edges: edges(), device_edges, known_constants, twin, twin_read }
     }
 
     /// Whether an area needs the description with devices, and the library's is not to be had or not accepted.
@@ -156,6 +162,10 @@ impl Maker {
             }
             "device-splits" => vec![self.split(r)],
             "twin" => vec![Case::Twin(self.twin_start(r))],
+            "constants" => vec![match self.known_constants.get(case as usize) {
+                Some(known) => Case::KnownConstants(known.clone()),
+                None => Case::Constants(constant_lines::line(r)),
+            }],
             name => unreachable!("no area {}", name),
         }
     }

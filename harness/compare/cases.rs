@@ -1,5 +1,7 @@
 //! One case of each kind: how it is compared, made smaller and printed.
 
+use crate::constant_cases;
+use crate::constant_known::KnownLine;
 use crate::coverage::Coverage;
 use crate::device_cases;
 use crate::device_starts::{DeviceEvaluateStart, DeviceStart};
@@ -24,6 +26,10 @@ pub enum Case {
     Read(Vec<u8>),
     /// A text with the answer that document 01 gives.
     Known(Vec<u8>, [u64; 2]),
+    /// A line to read constants from.
+    Constants(Vec<u8>),
+    /// A line with the answers that documents 01 and 02 give.
+    KnownConstants(KnownLine),
     Evaluate(EvaluateStart),
     /// The shipped description, by the evaluator and by the emulator.
     Shipped(EvaluateStart),
@@ -49,6 +55,8 @@ pub fn difference(case: &Case, coverage: &mut Coverage) -> Option<String> {
             }
             read(text, coverage)
         }
+        Case::Constants(line) => constant_cases::read(line, coverage),
+        Case::KnownConstants(known) => constant_cases::known(known, coverage),
         Case::Evaluate(start) => evaluated(start, coverage),
         Case::Shipped(start) => shipped(start, coverage),
         Case::Print(program, input) => programs::difference(program, input, coverage),

@@ -1,5 +1,6 @@
-//! How often each thing that has to be tried was tried: instruction words, refusals, operators, destinations, limits.
+//! How often each thing that has to be tried was tried: instruction words, refusals, operators, destinations, limits, constants.
 
+use crate::constant_coverage::ConstantCoverage;
 use crate::device_coverage::{self, DeviceCoverage};
 use crate::{edges, limits};
 use independent::description::{Description, Row};
@@ -21,6 +22,8 @@ pub struct Coverage {
     events: [u64; 9],
     /// What happened with devices.
     devices: DeviceCoverage,
+    /// What was read of constants.
+    pub constants: ConstantCoverage,
 }
 
 /// Places in EVENTS.
@@ -56,6 +59,7 @@ impl Coverage {
             just_stored: None,
             events: [0; 9],
             devices: DeviceCoverage::new(),
+            constants: ConstantCoverage::new(),
         }
     }
 
@@ -77,6 +81,7 @@ impl Coverage {
         self.explained.iter_mut().zip(&other.explained).for_each(|(own, count)| *own += count);
         self.events.iter_mut().zip(&other.events).for_each(|(own, count)| *own += count);
         self.devices.add(&other.devices);
+        self.constants.add(&other.constants);
     }
 
     /// Before each run, so that rewritten words are told from the others.
@@ -180,6 +185,7 @@ impl Coverage {
         missing.extend((0..4096).filter(|i| self.explained[*i] == 0).map(|i| format!("instruction {:04o} explained", i)));
         missing.extend((0..EVENTS.len()).filter(|i| self.events[*i] == 0).map(|i| EVENTS[i].to_string()));
         missing.extend(self.devices.missing());
+        missing.extend(self.constants.missing());
         missing
     }
 
@@ -191,6 +197,7 @@ impl Coverage {
             println!("{:>12}  {}", count, name);
         }
         self.devices.print();
+        self.constants.print();
         for op in 0..8 {
             let of_op = &self.words[op * 512..(op + 1) * 512];
             println!("{:>12}  steps of op {}, each of its 512 words at least {} times", of_op.iter().sum::<u64>(), op, of_op.iter().min().unwrap_or(&0));
@@ -199,7 +206,8 @@ impl Coverage {
 
     /// The things to be tried, and how many steps were watched.
     pub fn totals(&self) -> (usize, u64) {
-        (required().len() + 2 * 4096 + EVENTS.len() + DeviceCoverage::things(), self.words.iter().sum())
+        let things = required().len() + 2 * 4096 + EVENTS.len() + DeviceCoverage::things() + ConstantCoverage::things();
+        (things, self.words.iter().sum())
     }
 }
 

@@ -1,6 +1,6 @@
 //! Calls of the C entries under test. Everything lent to an entry stands between guard places, which have to stay.
 
-use crate::library::{first, guavachisel_emulate, guavachisel_evaluate, guavachisel_read, told, OUTCOME_PLACES};
+use crate::library::{first, guavachisel_emulate, guavachisel_evaluate, guavachisel_read, guavachisel_read_constant, told, CONSTANT_PLACES, OUTCOME_PLACES};
 
 const GUARDS: usize = 16;
 
@@ -62,6 +62,18 @@ pub fn read(text: &[u8]) -> [u64; 2] {
     let mut answer = [0; OUTCOME_PLACES];
     outcome.take_back(&mut answer, "outcome");
     first(answer)
+}
+
+/// NULL for an empty line, every other start. A place that isn't written keeps a number that no constant has.
+pub fn read_constant(line: &[u8], start: u64) -> [u64; CONSTANT_PLACES] {
+    let mut bytes = Guarded::new(line, b'1');
+    let mut constant = Guarded::new(&[u64::MAX - 7; CONSTANT_PLACES], u64::MAX - 5);
+    let first = if line.is_empty() && start % 2 == 1 { std::ptr::null() } else { bytes.pointer() };
+    unsafe { guavachisel_read_constant(first, line.len(), start, constant.pointer()) };
+    assert!(bytes.stayed(line), "the line was written to");
+    let mut answer = [0; CONSTANT_PLACES];
+    constant.take_back(&mut answer, "constant");
+    answer
 }
 
 pub fn evaluate(text: &[u8], memory: &mut [u16], registers: &mut [u16; 16], budget: u64, rows: &mut [u8]) -> [u64; 4] {

@@ -5,6 +5,10 @@
 
 mod areas;
 mod cases;
+mod constant_cases;
+mod constant_coverage;
+mod constant_known;
+mod constant_lines;
 mod coverage;
 mod damage;
 mod device_cases;

@@ -1,6 +1,7 @@
 //! A differing case made smaller while it still differs, and printed.
 
 use crate::cases::{difference, Case};
+use crate::constant_known::KnownLine;
 use crate::coverage::Coverage;
 use std::panic::{catch_unwind, AssertUnwindSafe};
 
@@ -19,7 +20,7 @@ fn differs(case: &Case) -> bool {
     check(case, &mut Coverage::new()).is_some()
 }
 
-/// The smallest budget at which it still differs; then lines dropped, then words cleared, then input and room taken away.
+/// The smallest budget at which it still differs; then lines dropped, then words cleared, then input and room taken away; of a line of constants, bytes cut out.
 pub fn shrunk(case: &Case) -> Case {
     let mut small = case.clone();
     shrink_budget(&mut small);
@@ -27,6 +28,7 @@ pub fn shrunk(case: &Case) -> Case {
     shrink_memory(&mut small);
     shrink_bytes(&mut small, input);
     shrink_bytes(&mut small, output);
+    shrink_line(&mut small);
     small
 }
 
@@ -162,6 +164,36 @@ fn shrink_bytes(case: &mut Case, bytes: fn(&mut Case) -> Option<&mut Vec<u8>>) {
     }
 }
 
+/// A line of constants without so many bytes from a place on; `None` if that is past its end.
+fn cut(case: &Case, place: usize, bytes: usize) -> Option<Case> {
+    match case {
+        Case::Constants(line) if place < line.len() => {
+            let end = (place + bytes).min(line.len());
+            Some(Case::Constants([&line[..place], &line[end..]].concat()))
+        }
+        _ => None,
+    }
+}
+
+/// Cuts bytes out of a line of constants, in halves of its length down to one.
+fn shrink_line(case: &mut Case) {
+    let mut bytes = match case {
+        Case::Constants(line) => line.len(),
+        _ => return,
+    };
+    while bytes > 0 {
+        let mut place = 0;
+        while let Some(shorter) = cut(case, place, bytes) {
+            if differs(&shorter) {
+                *case = shorter;
+            } else {
+                place += bytes;
+            }
+        }
+        bytes /= 2;
+    }
+}
+
 pub fn print(case: &Case) {
     match case {
         Case::Emulate(start) => print_state(&start.memory, &start.registers, start.budget),
@@ -171,6 +203,7 @@ pub fn print(case: &Case) {
             print_state(&start.memory, &start.registers, start.budget);
             println!("row list places: {}", start.rows.len());
         }
+        Case::Constants(line) | Case::KnownConstants(KnownLine { line, .. }) => println!("line of {} bytes: \"{}\"", line.len(), line.escape_ascii()),
         Case::Shipped(start) => print_state(&start.memory, &start.registers, start.budget),
         Case::EmulateDevices(lent) => {
             print_state(&lent.start.memory, &lent.start.registers, lent.start.budget);

@@ -1,4 +1,4 @@
 # A decimal has its shortest form's bits.
-# areas: texts
-# file: harness/independent/tokens.rs
+# areas: texts constants
+# file: harness/independent/constants.rs
 s/shortest + 1/shortest/

@@ -1,6 +1,6 @@
 /*
  * What the header says beside what the other tests try: the version, NULL with length 0, the room of a shipped description, and that what an entry doesn't speak of
- * is 0. It is compiled as C and as C++. The arguments are the files of the shipped descriptions, in the order of their numbers. Writes a line for each thing that
+ * is 0; of a constant, that all its numbers are written. It is compiled as C and as C++. The arguments are the files of the shipped descriptions, in the order of their numbers. Writes a line for each thing that
  * isn't so; the exit status is 0 if none is.
  */
 #include <stdio.h>
@@ -50,6 +50,34 @@ static void try_read(void)
     expect("read, NULL", GUAVACHISEL_REFUSED_HEADER, 1, 0, 0, 0, 0);
     guavachisel_read(shipped, lengths[0], &outcome);
     expect("read", 0, 0, 0, 0, 0, 0);
+}
+
+/* The constant at a start, beside its numbers: all of them 0 where none is there. */
+static void expect_constant(const char *call, const uint8_t *line, size_t bytes, uint64_t start, guavachisel_constant known)
+{
+    guavachisel_constant constant;
+
+    memset(&constant, MARK, sizeof constant);
+    guavachisel_read_constant(line, bytes, start, &constant);
+    if (memcmp(&known, &constant, sizeof known) != 0) {
+        printf("header: numbers of %s\n", call);
+        wrong = 1;
+    }
+}
+
+static void try_read_constant(void)
+{
+    static const uint8_t line[] = {'a', '1', '5', '#', '0', '0', '1', '7'};
+    static const guavachisel_constant none = {0, 0, 0, 0, 0}, decimal = {1, 15, 31, 5, 3}, octal = {1, 15, 4095, 12, 8};
+
+    expect_constant("read_constant, NULL", NULL, 0, 0, none);
+    expect_constant("read_constant, NULL, last start", NULL, 0, UINT64_MAX, none);
+    expect_constant("read_constant, a name", line, sizeof line, 0, none);
+    expect_constant("read_constant, a decimal", line, sizeof line, 1, decimal);
+    expect_constant("read_constant, an octal constant", line, sizeof line, 3, octal);
+    expect_constant("read_constant, the end", line, sizeof line, sizeof line, none);
+    expect_constant("read_constant, past the end", line, sizeof line, (UINT64_C(1) << 32) + 1, none);
+    expect_constant("read_constant, the last start", line, sizeof line, UINT64_MAX, none);
 }
 
 static void try_emulate(void)
@@ -208,6 +236,7 @@ int main(int count, char **arguments)
     }
     memset(&outcome, MARK, sizeof outcome);
     try_read();
+    try_read_constant();
     try_emulate();
     try_evaluate();
     try_emulate_devices();

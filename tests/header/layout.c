@@ -45,6 +45,13 @@ AT(guavachisel_outcome, printed, 6, 8);
 AT(guavachisel_outcome, answer, 7, 8);
 AT(guavachisel_outcome, sum, 8, 8);
 
+SAME(constant_size, sizeof(guavachisel_constant), 40);
+AT(guavachisel_constant, found, 0, 8);
+AT(guavachisel_constant, value, 1, 8);
+AT(guavachisel_constant, matter, 2, 8);
+AT(guavachisel_constant, width, 3, 8);
+AT(guavachisel_constant, after, 4, 8);
+
 SAME(halted, GUAVACHISEL_HALTED, 1);
 SAME(spent, GUAVACHISEL_SPENT, 2);
 SAME(paper, GUAVACHISEL_PAPER, 3);

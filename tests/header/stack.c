@@ -50,6 +50,26 @@ static void read_text(void)
     guavachisel_read(text, bytes, &outcome);
 }
 
+static uint8_t line[GUAVACHISEL_TEXT_BYTES];
+
+/* Digits as long as a text may be: behind each mark, and a decimal's, which no letter ends. */
+static void read_constant(void)
+{
+    static const uint8_t firsts[] = {'\'', '#', '1'};
+    guavachisel_constant constant;
+    size_t kind;
+
+    memset(line, '1', sizeof line);
+    for (kind = 0; kind < sizeof firsts; kind++) {
+        line[0] = firsts[kind];
+        guavachisel_read_constant(line, sizeof line, 0, &constant);
+    }
+    /* the longest of each kind that there is */
+    guavachisel_read_constant((const uint8_t *)"'1111111111111111", 17, 0, &constant);
+    guavachisel_read_constant((const uint8_t *)"#77777", 6, 0, &constant);
+    guavachisel_read_constant((const uint8_t *)"32767", 5, 0, &constant);
+}
+
 static void evaluate(void)
 {
     guavachisel_registers registers = {{0}};
@@ -148,6 +168,7 @@ int main(void)
     good &= run("evaluate_devices", evaluate_devices, GUAVACHISEL_STACK_EVALUATE_DEVICES);
     good &= run("emulate_devices", emulate_devices, GUAVACHISEL_STACK_EMULATE_DEVICES);
     good &= run("emulate", emulate, GUAVACHISEL_STACK_EMULATE);
+    good &= run("read_constant", read_constant, GUAVACHISEL_STACK_READ_CONSTANT);
     good &= run("version", version, GUAVACHISEL_STACK_VERSION);
     return good ? 0 : 1;
 }

@@ -1,6 +1,6 @@
 /*
- * The entries from C: the day's image run by the emulator, and by the evaluator of the shipped description; a description of our own, read and run; and a program that
- * answers at the teleprinter, on the machine with devices and on the twin of the shipped description.
+ * The entries from C: the day's image run by the emulator, and by the evaluator of the shipped description; a description of our own, read and run; the constants of
+ * an expression; and a program that answers at the teleprinter, on the machine with devices and on the twin of the shipped description.
  */
 #include <guavachisel.h>
 #include <inttypes.h>
@@ -87,6 +87,21 @@ static void evaluate_counter(void)
     print_rows(rows, outcome.rows);
 }
 
+static void read_constants(void)
+{
+    static const char expression[] = "M[#0017] Lss 15 And sorted @ '101";
+    const size_t bytes = strlen(expression);
+    guavachisel_constant constant;
+
+    /* from place to place, and behind what was found; in a name with digits these would be found, too */
+    for (uint64_t start = 0; start < bytes; start = constant.found ? constant.after : start + 1) {
+        guavachisel_read_constant((const uint8_t *)expression, bytes, start, &constant);
+        if (constant.found)
+            printf("read_constant: %.*s at %" PRIu64 ", value %" PRIu64 ", width %" PRIu64 "\n", (int)(constant.after - start), expression + start, start, constant.value,
+                   constant.width);
+    }
+}
+
 /* KSF; JMP .-1; KRB; TLS; JMP .-4: what is typed is printed */
 static void load_echo(void)
 {
@@ -135,6 +150,7 @@ int main(void)
     emulate();
     evaluate_shipped();
     evaluate_counter();
+    read_constants();
     echo();
     echo_by_rows();
     return 0;

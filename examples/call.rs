@@ -1,5 +1,5 @@
-//! The entries from Rust: the day's image run by the emulator, and by the evaluator of the shipped description; a description of our own, read and run; and a program
-//! that answers at the teleprinter, on the machine with devices and on the twin of the shipped description.
+//! The entries from Rust: the day's image run by the emulator, and by the evaluator of the shipped description; a description of our own, read and run; the
+//! constants of an expression; and a program that answers at the teleprinter, on the machine with devices and on the twin of the shipped description.
 
 /// guavachisel_machine
 #[repr(C)]
@@ -39,6 +39,17 @@ struct Outcome {
     sum: u64,
 }
 
+/// guavachisel_constant
+#[repr(C)]
+#[derive(Default)]
+struct Constant {
+    found: u64,
+    value: u64,
+    matter: u64,
+    width: u64,
+    after: u64,
+}
+
 const VERSION: u64 = 2;
 const WORDS: usize = 4096;
 const ROWS: usize = 128;
@@ -55,6 +66,7 @@ extern "C" {
         input: *const u8, bytes: usize, output: *mut u8, room: usize, outcome: *mut Outcome,
     );
     fn guavachisel_read(text: *const u8, bytes: usize, outcome: *mut Outcome);
+    fn guavachisel_read_constant(line: *const u8, bytes: usize, start: u64, constant: *mut Constant);
     #[rustfmt::skip]
     fn guavachisel_evaluate(
         text: *const u8, bytes: usize, memory: *mut u16, words: usize, registers: *mut [u16; 16], budget: u64,
@@ -79,6 +91,13 @@ fn read(text: &[u8]) -> Outcome {
     let mut outcome = Outcome::default();
     unsafe { guavachisel_read(text.as_ptr(), text.len(), &mut outcome) };
     outcome
+}
+
+/// `None` where no constant is there.
+fn read_constant(line: &[u8], start: usize) -> Option<Constant> {
+    let mut constant = Constant::default();
+    unsafe { guavachisel_read_constant(line.as_ptr(), line.len(), start as u64, &mut constant) };
+    if constant.found == 1 { Some(constant) } else { None }
 }
 
 #[rustfmt::skip]
@@ -178,6 +197,18 @@ fn main() {
     let outcome = evaluate(text, &mut memory, &mut registers, 100, &mut rows);
     print!("evaluate: {} cycles, {}, count {}", outcome.steps, ended(&outcome), registers[1]);
     println!(", rows that acted last:{}", listed(&rows, &outcome));
+
+    // from place to place, and behind what was found; in a name with digits these would be found, too
+    let expression = "M[#0017] Lss 15 And sorted @ '101";
+    let mut start = 0;
+    while start < expression.len() {
+        let mut next = start + 1;
+        if let Some(constant) = read_constant(expression.as_bytes(), start) {
+            next = constant.after as usize;
+            println!("read_constant: {} at {}, value {}, width {}", &expression[start..next], start, constant.value, constant.width);
+        }
+        start = next;
+    }
 
     // the paper has room for four: the run ends when it is full, and the last byte typed stands in the keyboard
     let (mut machine, mut devices, mut paper) = (Machine { pc: 0o200, run: 1, ..Machine::default() }, Devices::default(), [0; 4]);

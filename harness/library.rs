@@ -48,6 +48,7 @@ extern "C" {
 }
 
 /// found, value, matter, width, after
+#[allow(dead_code)]
 pub const CONSTANT_PLACES: usize = 5;
 
 /// refusal, place, steps, reason, rows, read, printed, answer, sum

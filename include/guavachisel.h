@@ -82,7 +82,7 @@ typedef struct {
 
 /* What guavachisel_read_constant finds; all 0 where no constant is there. */
 typedef struct {
-    uint64_t found;  /* 1 */
+    uint64_t found;  /* 1 if a constant is there */
     uint64_t value;  /* at most 65,535 */
     uint64_t matter; /* a 1 bit for each place that matters: all of the width's */
     uint64_t width;  /* in bits, 1 to 16 */

@@ -1,6 +1,7 @@
 pub mod Digits
-pub mod Taken
 pub mod Shortest
+pub mod Readings
+pub mod Taken
 pub mod Numerals
 pub mod Places
 pub mod Widths

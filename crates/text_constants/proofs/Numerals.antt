@@ -25,7 +25,7 @@ use Rattle.text_constants.specs.declared.Constant.{Constant}
 use Rattle.text_constants.specs.declared.Constant.the-variants.{Found, Missing}
 use Rattle.text_constants.specs.Constants.{binaryMark, octalMark, binaryDigits, octalDigits, decimalDigits, largest, numberAt, shortest, isPlain, decimalAt, markedAt, ofDecimal, constantAt}
 use Rattle.text_constants.specs.Numerals.{digitValue, valueOf, All, none, more, Ends, with-line, before, IsMarked, IsDecimal, IsConstant, binary, octal, decimal}
-use Rattle.text_constants.proofs.Digits.{digits-between, marked-found, by-binary, by-octal, by-decimal}
+use Rattle.text_constants.proofs.Readings.{digits-between, marked-found, by-binary, by-octal, by-decimal}
 use Rattle.text_constants.proofs.Taken.{run-is, run-all, run-ends, run-length, wider, first-is, others-are, binary-told, octal-told, decimal-told, value-is}
 use Rattle.text_constants.proofs.Shortest.{shortest-least, one-shortest}
 
@@ -174,7 +174,7 @@ module _ (s : List ℕ) (at : ℕ) where
         let high = leb-true 48 (getD s at 0) (and-left (leb 48 (getD s at 0)) (leb (getD s at 0) 57) is-digit) in
         omega (arith, same, run-onward Decimal s at (present s at (getD s at 0) refl (omega arith)) is-digit)
 
-    pub stated : IsDecimal (drop at s) at (numberAt 10 s at n 0) (at + n)
+    stated : IsDecimal (drop at s) at (numberAt 10 s at n 0) (at + n)
     stated =
         let many : length (take n onward) ≡ n = run-length Word onward in
         record {

@@ -1,7 +1,9 @@
--- The shortest form: `shortest` is the least number of bits that hold a value, and there is one such number.
+-- The shortest form: the search for it, one number of bits after the other; `shortest` is the least that hold a value, and there is one such number.
 -- Assumes nothing.
-use mathlib.Core.Path.{_≡_, subst}
-use Prim.Native.Nat.{ℕ, zero, suc, _+_, _^_, _≤_, _<_}
+use mathlib.Core.Path.{_≡_, refl, sym, ap, subst}
+use mathlib.Core.Bool.{true, false}
+use Prim.Native.Nat.{ℕ, zero, suc, _+_, _-_, _^_, _≤_, _<_}
+use native.Mathlib.Numerals.{sub-one}
 use native.Mathlib.Nat.{add-zero}
 use native.Mathlib.Omega.{arith}
 use lib.Dec.{leb}
@@ -11,6 +13,28 @@ use Rattle.laws.proofs.Tests.{by-test, by-case}
 use Rattle.word.specs.Word.{fits}
 use Rattle.text_constants.specs.Constants.{largest, shortestFrom, shortest}
 use Rattle.text_constants.specs.Numerals.{Shortest}
+
+-- the search for the least number of bits
+pub longer : (f n v : ℕ) → fits n v ≡ false → 0 < f → shortestFrom f n v ≡ shortestFrom (f - 1) (n + 1) v
+unfolding shortestFrom
+longer zero n v e h = absurd (omega arith)
+longer (suc f) n v e h = rw (e, shortestFrom) (ap (λ (k : ℕ). shortestFrom k (n + 1) v) (sym (sub-one (suc f))))
+
+pub long-enough : (f n v : ℕ) → fits n v ≡ true → shortestFrom f n v ≡ n
+unfolding shortestFrom
+long-enough zero n v e = refl
+long-enough (suc f) n v e = rw (e, shortestFrom)
+
+pub shortest-le : (f n v : ℕ) → shortestFrom f n v ≤ n + f
+unfolding shortestFrom
+shortest-le zero n v = omega arith
+shortest-le (suc f) n v =
+    let ih : shortestFrom f (n + 1) v ≤ n + 1 + f = shortest-le f (n + 1) v in
+    by-test (fits n v)
+    (λ e. omega (arith, long-enough (suc f) n v e))
+    (λ e.
+    let step : shortestFrom (suc f) n v ≡ shortestFrom f (n + 1) v = rw (e, shortestFrom) in
+    omega arith)
 
 -- the search gives no fewer bits than it begins with
 some-from : (f n v : ℕ) → 1 ≤ n → 1 ≤ shortestFrom f n v

@@ -20,8 +20,9 @@ use Rattle.text_constants.specs.declared.Constant.{Constant}
 use Rattle.text_constants.specs.declared.Constant.the-variants.{Found, Missing}
 use Rattle.laws.proofs.Tests.{by-case}
 use Rattle.text_constants.specs.Sizes.{Sized, Narrow}
-use Rattle.text_constants.proofs.Digits.{digits-between, value-lt, binary-sized, octal-sized, shortest-le}
-use Rattle.text_constants.proofs.Shortest.{shortest-least}
+use Rattle.text_constants.proofs.Digits.{value-lt, binary-sized, octal-sized}
+use Rattle.text_constants.proofs.Readings.{digits-between}
+use Rattle.text_constants.proofs.Shortest.{shortest-le, shortest-least}
 
 -- a constant of 1 to 16 bits, which its value fits
 abbrev pub Fitting : Constant → Type 0

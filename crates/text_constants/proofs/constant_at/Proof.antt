@@ -2,7 +2,8 @@
 use mathlib.Core.Path.{sym, ap, _∙_}
 use native.Mathlib.Omega.{arith}
 use Rattle.text_constants.specs.Constants.{ofDecimal}
-use Rattle.text_constants.proofs.Digits.{binary-sized, octal-sized, by-binary, by-octal, by-decimal, constant-past-end}
+use Rattle.text_constants.proofs.Digits.{binary-sized, octal-sized}
+use Rattle.text_constants.proofs.Readings.{by-binary, by-octal, by-decimal, constant-past-end}
 use borrow.Author.Needs.{needs}
 use Rattle.text_constants.proofs.constant_at.Statement.{statement}
 use Rattle.text_constants.proofs.constant_at.Tie as tie

@@ -12,7 +12,7 @@ use Rattle.text_constants.specs.Constants.{numberAt, decimalDigits}
 use Rattle.characters.specs.declared.Class.the-variants.{Word}
 use Rattle.text_constants.specs.declared.Number.the-variants.{Plain}
 use Rattle.characters.proofs.Runs.{after-start, before-end}
-use Rattle.text_constants.proofs.Digits.{decimal-found, decimal-large, decimal-none, decimal-past-end}
+use Rattle.text_constants.proofs.Readings.{decimal-found, decimal-large, decimal-none, decimal-past-end}
 use Rattle.laws.proofs.Joined.{and-left, and-right}
 use borrow.Author.Needs.{needs}
 use Rattle.text_constants.proofs.decimal_at.Statement.{statement}

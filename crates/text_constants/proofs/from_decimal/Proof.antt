@@ -1,7 +1,7 @@
 -- `text_constants::from_decimal` is its definition, case by case.
 use native.Mathlib.Omega.{arith}
 use Rattle.text_constants.specs.Constants.{ofDecimal}
-use Rattle.text_constants.proofs.Digits.{shortest-le}
+use Rattle.text_constants.proofs.Shortest.{shortest-le}
 use borrow.Author.Needs.{needs}
 use Rattle.text_constants.proofs.from_decimal.Statement.{statement}
 use Rattle.text_constants.proofs.from_decimal.Tie as tie

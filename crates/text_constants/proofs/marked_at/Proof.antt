@@ -1,10 +1,8 @@
 -- `text_constants::marked_at`: the digits that count, of so many bits each.
-use mathlib.Core.Path.{sym, ap, _∙_}
-use Prim.Native.Nat.{ℕ, _+_, _*_}
+use mathlib.Core.Path.{sym}
 use native.Mathlib.Omega.{arith}
 use Rattle.characters.proofs.Runs.{after-start}
-use Rattle.text_constants.specs.declared.Constant.the-variants.{Found}
-use Rattle.text_constants.proofs.Digits.{some-count, none-counts, marked-found}
+use Rattle.text_constants.proofs.Readings.{some-count, none-counts, found-as}
 use borrow.Author.Needs.{needs}
 use Rattle.text_constants.proofs.marked_at.Statement.{statement}
 use Rattle.text_constants.proofs.marked_at.Tie as tie
@@ -85,8 +83,8 @@ returns-2 c =
     let counts =
     some-count (a .class) (a .base) (a .size) (a .most) (a .s .now) (a .at) (end .result) (n .result) (end .ensures) (n .ensures)
     (c .before .before .before .before .before .pre) (c .before .if1 .left) in
-    ap (λ (v : ℕ). Found v (a .size * n .result) (a .at + n .result)) (c .digits-value .ensures)
-    ∙ sym (marked-found (a .class) (a .base) (a .size) (a .most) (a .s .now) (a .at) (n .result) (counts .end) (counts .some) (counts .few))
+    found-as (a .class) (a .base) (a .size) (a .most) (a .s .now) (a .at) (n .result) _ _ _ (counts .end) (counts .some) (counts .few)
+    (c .digits-value .ensures) (omega arith) (omega arith)
 
 pub marked-at-spec : {M : Type 1} → statement M
 marked-at-spec =

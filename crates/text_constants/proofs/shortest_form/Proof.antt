@@ -4,7 +4,7 @@ use Prim.Native.Nat.{ℕ, _+_, _-_, _≤_}
 use native.Mathlib.Nat.{sub-add-eq}
 use native.Mathlib.Omega.{arith}
 use Rattle.text_constants.specs.Constants.{shortest, shortestFrom}
-use Rattle.text_constants.proofs.Digits.{longer, long-enough}
+use Rattle.text_constants.proofs.Shortest.{longer, long-enough}
 use borrow.Author.Needs.{needs}
 use Rattle.text_constants.proofs.shortest_form.Statement.{statement}
 use Rattle.text_constants.proofs.shortest_form.Tie as tie

@@ -82,7 +82,7 @@ module _ (mark : ℕ) (k : Class) (size most : ℕ) (told : (b : ℕ) → belong
   marked-read : {v w p : ℕ} → IsMarked mark k size most (drop at s) at v w p → markedAt k (2 ^ size) size most s (at + 1) ≡ Found v w p
   marked-read {v = v} {w = w} {p = p} h =
       let n = length (h .digits) in
-      marked-found k (2 ^ size) size most s (at + 1) n (ends-at s at h) (h .some) (h .few)
+      marked-found k (2 ^ size) size most s (at + 1) n (ends-at s at h) (omega (arith, h .some)) (omega (arith, h .few))
       ∙ ap (λ (x : ℕ). Found x (size * n) (at + 1 + n)) (value-is k told (2 ^ size) s (h .digits) (h .rest) (at + 1) (behind s at h) (h .all) ∙ sym (h .value))
       ∙ ap (λ (x : ℕ). Found v x (at + 1 + n)) (sym (h .width))
       ∙ ap (λ (x : ℕ). Found v w x) (sym (h .after))

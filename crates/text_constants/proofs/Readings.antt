@@ -12,7 +12,7 @@ use lib.Dec.{eqb, leb, ltb}
 use lib.ListN.{length, getD, List·getD-eq-default}
 use borrow.Author.Tests.{leb-true, ltb-true, ltb-false, lt-ltb, le-leb, lt-leb, eq-eqb, ne-eqb}
 use Rattle.characters.specs.Characters.{isDigit, runEnd}
-use Rattle.text_constants.specs.Constants.{binaryMark, octalMark, binaryDigits, octalDigits, largest, numberAt, isPlain, decimalAt, markedAt, ofDecimal, constantAt}
+use Rattle.text_constants.specs.Constants.{binaryMark, octalMark, binaryDigits, octalDigits, largest, numberAt, shortest, isPlain, decimalAt, markedAt, ofDecimal, constantAt}
 use Rattle.text_constants.specs.Sizes.{Sized}
 use Rattle.word.specs.Word.{widest}
 use Rattle.word.specs.Choice.{pick}
@@ -125,6 +125,11 @@ module _ (s : List ℕ) (at : ℕ) where
   unfolding decimalAt
   decimal-none t = rw (t, decimalAt)
 
+-- a decimal as a constant, of a width that is this one
+pub decimal-as : (v w p : ℕ) → w ≡ shortest v + 1 → Found v w p ≡ ofDecimal (Plain v p)
+unfolding ofDecimal
+decimal-as v w p e = ap (λ (x : ℕ). Found v x p) e
+
 -- the byte at a place tells which kind stands there, if any does
 module _ (s : List ℕ) (at : ℕ) where
   pub by-binary : getD s at 0 ≡ binaryMark → constantAt s at ≡ markedAt Binary 2 1 binaryDigits s (at + 1)
@@ -140,6 +145,11 @@ module _ (s : List ℕ) (at : ℕ) where
   pub by-decimal : (getD s at 0 ≡ binaryMark → ⊥) → (getD s at 0 ≡ octalMark → ⊥) → constantAt s at ≡ ofDecimal (decimalAt s at)
   unfolding constantAt
   by-decimal h g = rw (ne-eqb (getD s at 0) binaryMark h, ne-eqb (getD s at 0) octalMark g, constantAt)
+
+  -- read from the place behind the mark, however that is reckoned
+  pub behind-as : (k : Class) (base size most p : ℕ) (c : Constant) → constantAt s at ≡ markedAt k base size most s (at + 1) → p ≡ at + 1
+      → c ≡ markedAt k base size most s p → c ≡ constantAt s at
+  behind-as k base size most p c e i h = h ∙ ap (λ (j : ℕ). markedAt k base size most s j) i ∙ sym e
 
 -- past the end stands neither a decimal nor another constant
 module _ (s : List ℕ) (at : ℕ) (h : length s ≤ at) where

@@ -27,6 +27,7 @@ worked =
     -- a decimal is a whole run, without leading zeros, up to 32767
     ∷ reads "12ab" 0 Missing
     ∷ reads "12." 0 Missing
+    ∷ reads "07" 0 Missing
     ∷ reads "007" 0 Missing
     ∷ reads "32768" 0 Missing
     -- digits behind a mark go as far as they go

@@ -1,7 +1,9 @@
 -- `text_constants::from_decimal` is its definition, case by case.
+use mathlib.Core.Path.{sym, ap, _∙_}
 use native.Mathlib.Omega.{arith}
 use Rattle.text_constants.specs.Constants.{ofDecimal}
 use Rattle.text_constants.proofs.Shortest.{shortest-le}
+use Rattle.text_constants.proofs.Readings.{decimal-as}
 use borrow.Author.Needs.{needs}
 use Rattle.text_constants.proofs.from_decimal.Statement.{statement}
 use Rattle.text_constants.proofs.from_decimal.Tie as tie
@@ -27,9 +29,9 @@ enum-told : tie.Need-enum-told
 enum-told c = search needs
 
 returns : tie.Need-returns
-unfolding ofDecimal
 returns c =
-    rw (c .before .before .d .given .1, c .shortest-form .ensures)
+    let d = c .before .before .d .given in
+    decimal-as (d .0 .0) _ _ (omega (arith, c .shortest-form .ensures)) ∙ sym (ap ofDecimal (d .1))
 
 returns-2 : tie.Need-returns-2
 unfolding ofDecimal

@@ -48,9 +48,9 @@ padded-fit (r ∷ names) later (x ∷ values) n e f =
     at others zero = f .narrow 0
     at others (suc k) = others .narrow k
 
-sixteen : (d : Bool) (m : Machine) (c : Devices) → length (placesOf d m c) ≡ mostRegisters
-sixteen true m c = refl
-sixteen false m c = refl
+all-places : (d : Bool) (m : Machine) (c : Devices) → length (placesOf d m c) ≡ mostRegisters
+all-places true m c = refl
+all-places false m c = refl
 
 module _ (d : Bool) (m : Machine) (c : Devices) (memory : List ℕ) (budget : ℕ) (fit : checkOf d m c memory budget ≡ Fit) where
   abbrev names : List Named
@@ -71,7 +71,7 @@ module _ (d : Bool) (m : Machine) (c : Devices) (memory : List ℕ) (budget : �
   checked-start : (list : List ℕ) → rowPlaces ≤ length list → Start (variantOf d) m c (placesOf d m c) memory budget list
   checked-start list room =
       record {
-        places = sixteen d m c;
+        places = all-places d m c;
         machine = machine-first (variantOf d) m c (replicate unused 0);
         fitting =
             subst (λ (t : Description). Fitting (widthsOf t) (placesOf d m c)) (sym (shipped-is (variantOf d)))

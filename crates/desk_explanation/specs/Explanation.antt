@@ -43,7 +43,7 @@ hasPlace d printed = not d || ltb printed paperPlaces
 abbrev pub exchangeOf : Bool → ℕ → List ℕ → List ℕ
 exchangeOf d read printed = pick d (exchangeLines read printed) []
 
--- a machine's registers, as the evaluator takes them: "the evaluator's sixteen places", with 0 in those of no machine register
+-- a machine's registers, as the evaluator takes them: its "32 places", with 0 in those of no machine register
 abbrev pub placesOf : Bool → Machine → Devices → List ℕ
 placesOf d m c = valuesOf (variantOf d) m c ++ replicate (mostRegisters - length (registersOf (variantOf d))) 0
 

@@ -19,6 +19,7 @@ use Rattle.characters.specs.Ascii.{ascii, tab, lineFeed}
 use Rattle.page.specs.Text.{octal}
 use Rattle.page.specs.Written.{Written}
 use Rattle.page.proofs.Numbers.{octal-length}
+use Rattle.text_limits.specs.Limits.{mostRegisters}
 use Rattle.text_declaration.specs.Rows.{Description}
 use Rattle.shipped_rows.specs.Variant.{Variant, plain, devices, registersOf, valuesOf}
 use Rattle.shipped_rows.proofs.Accepted.{shipped-is}
@@ -107,7 +108,7 @@ working-values v n values e h =
     ∙ ap (λ (l : List ℕ). getD values (suc n) 0 ∷ l) (drop-cons values (suc (suc n)) 0 (omega arith)
     ∙ ap (λ (l : List ℕ). getD values (suc (suc n)) 0 ∷ l) (drop-cons values (suc (suc (suc n))) 0 (omega arith)))))
 
-pub working-size : (v : Variant) (values : List ℕ) → length values ≡ 16 → length (registerLines (workingRegisters v) (workingValues v values)) ≡ workingLinesBytes
+pub working-size : (v : Variant) (values : List ℕ) → length values ≡ mostRegisters → length (registerLines (workingRegisters v) (workingValues v values)) ≡ workingLinesBytes
 working-size v values h =
     ap (λ (rs : List Named). length (registerLines rs (workingValues v values))) (working-registers v)
     ∙ lines-size working (workingValues v values) (go v)

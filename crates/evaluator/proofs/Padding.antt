@@ -1,4 +1,4 @@
--- The widths of the sixteen places, how a loop fills them in, and what the checks make of them.
+-- The widths of all places, how a loop fills them in, and what the checks make of them.
 -- Assumes nothing.
 use mathlib.Core.Path.{_≡_, refl, sym, ap, subst, _∙_}
 use mathlib.Core.List.{List}

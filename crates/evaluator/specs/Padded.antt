@@ -1,4 +1,4 @@
--- The widths of the sixteen places, as the reader's dictionary has them, and the checks by them.
+-- The widths of all places, as the reader's dictionary has them, and the checks by them.
 -- Everything here is total, whatever stands in the dictionary.
 -- Assumes nothing.
 use mathlib.Core.List.{List, [], _∷_}
@@ -20,7 +20,7 @@ unfoldable pub widthsFrom : Dictionary → ℕ → ℕ → List ℕ
 widthsFrom d k zero = []
 widthsFrom d k (suc n) = widthAt d k ∷ widthsFrom d (suc k) n
 
--- the sixteen places' widths
+-- the widths of all places: "13 looks at all 32 places"
 abbrev pub padded : Dictionary → List ℕ
 padded d = widthsFrom d 0 mostRegisters
 

@@ -21,7 +21,7 @@ fn width_at(d: Dictionary, place: usize) -> u64
     }
 }
 
-// The widths of the sixteen places.
+// The widths of all places.
 fn widths_of(d: Dictionary) -> [u64; MOST_REGISTERS]
     ensures { λ w. ⌜ w ≡ padded d ⌝ }
 {

@@ -36,7 +36,7 @@ machinePart v registers = take (length (registersOf v)) registers
 
 -- a start of both runs that meets no refusal: "given these five, input and output room equal at the start"
 pub record Start (v : Variant) (m : Machine) (c : Devices) (registers memory : List ℕ) (budget : ℕ) (list : List ℕ) : Type 0 where
-  -- "the evaluator's sixteen places": the machine's registers, then "A shipped description's registers that the emulator lacks", "its working registers"
+  -- "the register set grows to 32 places": the machine's registers, then "A shipped description's registers that the emulator lacks", "its working registers"
   pub places : length registers ≡ mostRegisters
   pub machine : machinePart v registers ≡ valuesOf v m c
   -- "a value fits a register if it is no wider"; in the unused part only 0 fits

@@ -35,7 +35,7 @@ abbrev pub Lower : ℕ → List Row → Type 0
 Lower n [] = Unit {0}
 Lower n (r ∷ more) = record { first : Lands r (length more + n); others : Lower n more }
 
--- "16 registers, 128 rows, .. 1,024 pieces pass"
+-- "128 rows, .. 1,024 pieces pass", and 32 registers: "The 33rd register now meets 7"
 pub record Formed (d : Description) : Type 0 where
   pub few-registers : length (d .registers) ≤ mostRegisters
   pub registers-fit : Registers (d .registers)

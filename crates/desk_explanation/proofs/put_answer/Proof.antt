@@ -5,6 +5,7 @@ use mathlib.Core.Path.{_≡_}
 use Prim.Native.Nat.{_^_, _≤_, _<_}
 use lib.ListN.{length, take, length-take}
 use Rattle.state.specs.Refusals.{reasonWith}
+use Rattle.text_limits.specs.Limits.{mostRegisters}
 use Rattle.page.proofs.Numbers.{decimal-length}
 use Rattle.page.proofs.Writing.{written-then, written-page}
 use Rattle.desk_run_lines.specs.Registers.{variantOf}
@@ -15,8 +16,8 @@ use Rattle.desk_explanation.proofs.Sizes.{end-within, exchange-within, 
 use Rattle.desk_explanation.proofs.put_answer.Statement.{statement}
 use Rattle.desk_explanation.proofs.put_answer.Tie as tie
 
-sixteen : (start : tie.Start) → length (start .args .places) ≡ 16
-sixteen start = let g = start .good in search needs
+all-places : (start : tie.Start) → length (start .args .places) ≡ mostRegisters
+all-places start = let g = start .good in search needs
 
 -- numbers of 64 bits
 steps-bound : (start : tie.Start) → start .args .e .steps < 10 ^ 20
@@ -59,7 +60,7 @@ after-registers c = let step = c .before .before in
 after-working : (c : tie.After-put-working) → c .put-working .result ≤ 739
 after-working c = let registers = c .before .before in
     let start = registers .before .before .before .before .before .before .before .before .before .before .before .before .before in
-    omega (arith, c .put-working .ensures .place, working-size (variantOf (start .args .devices)) (start .args .places) (sixteen start), after-registers registers)
+    omega (arith, c .put-working .ensures .place, working-size (variantOf (start .args .devices)) (start .args .places) (all-places start), after-registers registers)
 
 cast-put-end-line : tie.Need-cast-put-end-line
 cast-put-end-line c = search needs

@@ -32,7 +32,7 @@ returns k =
     let emulated = evaluated .before .before .before .before .before .before .before .before in
     let start = emulated .before .before .before .before .before .before .before .before .before in
     let a = start .args in
-    let sixteen = start .good .1 .1 .1 .1 .1 .0 in
+    let all-places = start .good .1 .1 .1 .1 .1 .0 in
     together (variantOf (a .devices)) (a .m) (a .c) (a .registers .values) (a .first .now) (a .second .now) (a .budget) (a .rows .now) (a .input .now) (a .left .now)
     (a .right .now) _ _ (search needs) (emulated .emulate-variant .ensures) (evaluated .evaluate-variant .ensures)
 

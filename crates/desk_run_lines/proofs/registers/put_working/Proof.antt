@@ -4,6 +4,7 @@ use native.Mathlib.Omega.{arith}
 use mathlib.Core.Path.{_≡_}
 use Prim.Native.Nat.{_+_, _≤_}
 use lib.ListN.{length}
+use Rattle.text_limits.specs.Limits.{mostRegisters}
 use Rattle.characters.specs.Ascii.{ascii}
 use Rattle.page.proofs.Writing.{written-none, written-then}
 use Rattle.desk_run_lines.specs.Registers.{variantOf}
@@ -12,8 +13,8 @@ use Rattle.desk_run_lines.proofs.RegisterLines.{register-end, registers
 use Rattle.desk_run_lines.proofs.registers.put_working.Statement.{statement}
 use Rattle.desk_run_lines.proofs.registers.put_working.Tie as tie
 
-sixteen : (start : tie.Start) → length (start .args .t4) ≡ 16
-sixteen start = let g = start .good in search needs
+all-places : (start : tie.Start) → length (start .args .t4) ≡ mostRegisters
+all-places start = let g = start .good in search needs
 
 -- the first of them stands behind at most eleven
 few : (c : tie.After-count) → c .count .result ≤ 11
@@ -96,7 +97,7 @@ returns c = let eadd = c .before .before .before in
     let count = i .before .before .before in
     let start = count .before in
     let v = variantOf (start .args .devices) in
-    rw (working-registers v, working-values v _ (start .args .t4) (count .count .ensures) (omega (arith, few count, sixteen start)))
+    rw (working-registers v, working-values v _ (start .args .t4) (count .count .ensures) (omega (arith, few count, all-places start)))
     (written-then _ _ (i .put-register .ensures)
     (written-then _ _ (last .put-register2 .ensures)
     (written-then _ _ (eadd .put-register3 .ensures)

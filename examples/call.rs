@@ -50,8 +50,9 @@ struct Constant {
     after: u64,
 }
 
-const VERSION: u64 = 2;
+const VERSION: u64 = 3;
 const WORDS: usize = 4096;
+const REGISTERS: usize = 32;
 const ROWS: usize = 128;
 const REFUSED_VALUE: u64 = 13;
 const PLAIN: u64 = 0;
@@ -69,12 +70,12 @@ extern "C" {
     fn guavachisel_read_constant(line: *const u8, bytes: usize, start: u64, constant: *mut Constant);
     #[rustfmt::skip]
     fn guavachisel_evaluate(
-        text: *const u8, bytes: usize, memory: *mut u16, words: usize, registers: *mut [u16; 16], budget: u64,
+        text: *const u8, bytes: usize, memory: *mut u16, words: usize, registers: *mut [u16; REGISTERS], budget: u64,
         rows: *mut u8, places: usize, outcome: *mut Outcome,
     );
     #[rustfmt::skip]
     fn guavachisel_evaluate_devices(
-        text: *const u8, bytes: usize, memory: *mut u16, words: usize, registers: *mut [u16; 16], budget: u64,
+        text: *const u8, bytes: usize, memory: *mut u16, words: usize, registers: *mut [u16; REGISTERS], budget: u64,
         rows: *mut u8, places: usize, input: *const u8, input_bytes: usize, output: *mut u8, room: usize, outcome: *mut Outcome,
     );
     fn guavachisel_shipped(which: u64, text: *mut u8, room: usize, outcome: *mut Outcome);
@@ -101,7 +102,7 @@ fn read_constant(line: &[u8], start: usize) -> Option<Constant> {
 }
 
 #[rustfmt::skip]
-fn evaluate(text: &[u8], memory: &mut [u16], registers: &mut [u16; 16], budget: u64, rows: &mut [u8]) -> Outcome {
+fn evaluate(text: &[u8], memory: &mut [u16], registers: &mut [u16; REGISTERS], budget: u64, rows: &mut [u8]) -> Outcome {
     let mut outcome = Outcome::default();
     unsafe {
         guavachisel_evaluate(text.as_ptr(), text.len(), memory.as_mut_ptr(), memory.len(), registers, budget,
@@ -121,7 +122,7 @@ fn emulate_devices(memory: &mut [u16], machine: &mut Machine, devices: &mut Devi
 }
 
 #[rustfmt::skip]
-fn evaluate_devices(text: &[u8], memory: &mut [u16], registers: &mut [u16; 16], budget: u64, rows: &mut [u8], input: &[u8], output: &mut [u8]) -> Outcome {
+fn evaluate_devices(text: &[u8], memory: &mut [u16], registers: &mut [u16; REGISTERS], budget: u64, rows: &mut [u8], input: &[u8], output: &mut [u8]) -> Outcome {
     let mut outcome = Outcome::default();
     unsafe {
         guavachisel_evaluate_devices(text.as_ptr(), text.len(), memory.as_mut_ptr(), memory.len(), registers, budget, rows.as_mut_ptr(), rows.len(),
@@ -182,7 +183,7 @@ fn main() {
     // the shipped description's first registers are the machine's, in the same order: PC is the second, RUN the third
     let text = shipped(PLAIN);
     println!("shipped: {} bytes", text.len());
-    let (mut registers, mut rows) = ([0; 16], [0; ROWS]);
+    let (mut registers, mut rows) = ([0; REGISTERS], [0; ROWS]);
     registers[..3].copy_from_slice(&[0, 0o200, 1]);
     let outcome = evaluate(&text, &mut image(), &mut registers, 16, &mut rows);
     print!("evaluate: {} cycles, {}, LAC {:05o}", outcome.steps, ended(&outcome), registers[0]);
@@ -192,7 +193,7 @@ fn main() {
     let refused = read(b"rows\t1\nreg\tRUN\t99\n");
     println!("read: refusal {} in line {}", refused.refusal, refused.place);
     let text = b"rows\t1\nreg\tRUN\t1\nreg\tcount\t8\ndo\t1\tcount\tcount + 1\ndo\tcount Eql 3\tRUN\t0\n";
-    let mut registers = [0; 16];
+    let mut registers = [0; REGISTERS];
     registers[0] = 1;
     let outcome = evaluate(text, &mut memory, &mut registers, 100, &mut rows);
     print!("evaluate: {} cycles, {}, count {}", outcome.steps, ended(&outcome), registers[1]);
@@ -214,7 +215,7 @@ fn main() {
     let (mut machine, mut devices, mut paper) = (Machine { pc: 0o200, run: 1, ..Machine::default() }, Devices::default(), [0; 4]);
     let outcome = emulate_devices(&mut echo(), &mut machine, &mut devices, 1000, b"HELLO", &mut paper);
     println!("emulate_devices: {} steps, {}, {} read, printed {}", outcome.steps, ended(&outcome), outcome.read, printed(&paper, &outcome));
-    let (text, mut registers) = (shipped(DEVICES), [0; 16]);
+    let (text, mut registers) = (shipped(DEVICES), [0; REGISTERS]);
     registers[..3].copy_from_slice(&[0, 0o200, 1]);
     let outcome = evaluate_devices(&text, &mut echo(), &mut registers, 1000, &mut rows, b"HELLO", &mut paper);
     print!("evaluate_devices: {} cycles, {}, {} read, printed {}", outcome.steps, ended(&outcome), outcome.read, printed(&paper, &outcome));

@@ -23,10 +23,10 @@ extern "C" {
 #endif
 
 /* Counts up with every change that a caller has to be compiled anew for; guavachisel_version() says the library's. */
-#define GUAVACHISEL_VERSION 2
+#define GUAVACHISEL_VERSION 3
 
 #define GUAVACHISEL_WORDS 4096       /* words of memory */
-#define GUAVACHISEL_REGISTERS 16     /* places for a description's registers */
+#define GUAVACHISEL_REGISTERS 32     /* places for a description's registers */
 #define GUAVACHISEL_ROWS 128         /* places that a row list has at least */
 #define GUAVACHISEL_BUDGET 1000000   /* the largest budget */
 #define GUAVACHISEL_TEXT_BYTES 16384 /* the longest text of a description */

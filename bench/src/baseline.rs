@@ -5,6 +5,7 @@ use crate::programs::{Program, DEVICE_PROGRAMS, PROGRAMS};
 use crate::rates::{emulator_rate, evaluator_rate, reader_rate};
 use crate::timing::best;
 use crate::{entries, millions, must_agree, ratio, texts, Bench, CALL};
+use rival::rows::Registers;
 
 extern "C" {
     fn baseline_guavachisel_emulate(memory: *mut u16, words: usize, machine: *mut u16, budget: u64, outcome: *mut u64);
@@ -34,7 +35,7 @@ fn read(text: &[u8]) -> [u64; 2] {
     first(outcome)
 }
 
-fn evaluate(text: &[u8], memory: &mut [u16], registers: &mut [u16; 16], budget: u64, rows: &mut [u8]) -> [u64; 4] {
+fn evaluate(text: &[u8], memory: &mut [u16], registers: &mut Registers, budget: u64, rows: &mut [u8]) -> [u64; 4] {
     let mut outcome = [0; OUTCOME_PLACES];
     let (words, places) = (memory.len(), rows.len());
     unsafe {

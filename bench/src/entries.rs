@@ -3,6 +3,7 @@
 use crate::library::{
     first, guavachisel_emulate, guavachisel_emulate_devices, guavachisel_evaluate, guavachisel_evaluate_devices, guavachisel_read, told, told_devices, OUTCOME_PLACES,
 };
+use rival::rows::Registers;
 
 pub fn emulate(memory: &mut [u16], registers: &mut [u16; 6], budget: u64) -> [u64; 3] {
     let mut outcome = [0; OUTCOME_PLACES];
@@ -16,7 +17,7 @@ pub fn read(text: &[u8]) -> [u64; 2] {
     first(outcome)
 }
 
-pub fn evaluate(text: &[u8], memory: &mut [u16], registers: &mut [u16; 16], budget: u64, rows: &mut [u8]) -> [u64; 4] {
+pub fn evaluate(text: &[u8], memory: &mut [u16], registers: &mut Registers, budget: u64, rows: &mut [u8]) -> [u64; 4] {
     let mut outcome = [0; OUTCOME_PLACES];
     unsafe {
         guavachisel_evaluate(
@@ -53,7 +54,7 @@ pub fn emulate_devices(memory: &mut [u16], registers: &mut [u16; 6], devices: &m
     told_devices(outcome)
 }
 
-pub fn evaluate_devices(text: &[u8], memory: &mut [u16], registers: &mut [u16; 16], budget: u64, rows: &mut [u8], input: &[u8], output: &mut [u8]) -> [u64; 6] {
+pub fn evaluate_devices(text: &[u8], memory: &mut [u16], registers: &mut Registers, budget: u64, rows: &mut [u8], input: &[u8], output: &mut [u8]) -> [u64; 6] {
     let mut outcome = [0; OUTCOME_PLACES];
     unsafe {
         guavachisel_evaluate_devices(

@@ -2,9 +2,11 @@
 
 use crate::programs::Program;
 use crate::timing::timed;
+use rival::description::REGISTERS;
+use rival::rows::Registers;
 
 pub type Emulate = fn(&mut [u16], &mut [u16; 6], u64) -> [u64; 3];
-pub type Evaluate = fn(&[u8], &mut [u16], &mut [u16; 16], u64, &mut [u8]) -> [u64; 4];
+pub type Evaluate = fn(&[u8], &mut [u16], &mut Registers, u64, &mut [u8]) -> [u64; 4];
 pub type Read = fn(&[u8]) -> [u64; 2];
 
 /// Steps a second over so many calls, each from what the last one left, and the end.
@@ -20,9 +22,9 @@ pub fn emulator_rate(emulate: Emulate, program: &Program, calls: u64, budget: u6
 }
 
 /// Cycles a second of the shipped description, and the end.
-pub fn evaluator_rate(evaluate: Evaluate, text: &[u8], program: &Program, calls: u64, budget: u64) -> (f64, [u16; 16]) {
+pub fn evaluator_rate(evaluate: Evaluate, text: &[u8], program: &Program, calls: u64, budget: u64) -> (f64, Registers) {
     let mut memory = program.memory();
-    let mut registers = [0; 16];
+    let mut registers = [0; REGISTERS];
     registers[1] = 0o200;
     registers[2] = 1;
     let mut rows = [0; 128];
@@ -46,7 +48,7 @@ pub fn reader_rate(read: Read, text: &[u8], calls: u64) -> f64 {
 }
 
 pub type EmulateDevices = fn(&mut [u16], &mut [u16; 6], &mut [u16; 5], u64, &[u8], &mut [u8]) -> [u64; 6];
-pub type EvaluateDevices = fn(&[u8], &mut [u16], &mut [u16; 16], u64, &mut [u8], &[u8], &mut [u8]) -> [u64; 6];
+pub type EvaluateDevices = fn(&[u8], &mut [u16], &mut Registers, u64, &mut [u8], &[u8], &mut [u8]) -> [u64; 6];
 
 /// Steps a second with devices, nothing typed, each call with room for all that it prints; and the end.
 pub fn devices_rate(emulate: EmulateDevices, program: &Program, calls: u64, budget: u64) -> (f64, [u16; 6]) {
@@ -63,9 +65,9 @@ pub fn devices_rate(emulate: EmulateDevices, program: &Program, calls: u64, budg
 }
 
 /// Cycles a second of the description with devices, and the end.
-pub fn twin_rate(evaluate: EvaluateDevices, text: &[u8], program: &Program, calls: u64, budget: u64) -> (f64, [u16; 16]) {
+pub fn twin_rate(evaluate: EvaluateDevices, text: &[u8], program: &Program, calls: u64, budget: u64) -> (f64, Registers) {
     let mut memory = program.memory();
-    let mut registers = [0; 16];
+    let mut registers = [0; REGISTERS];
     registers[1] = 0o200;
     registers[2] = 1;
     let mut rows = [0; 128];

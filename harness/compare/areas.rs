@@ -13,9 +13,10 @@ use crate::limits::{limits, Limit};
 use crate::programs::Program;
 use crate::questions;
 use crate::random::Random;
+use crate::register_sets;
 use crate::states::{spoil, State};
 use crate::texts;
-use independent::description::{description, Description};
+use independent::description::{description, Description, REGISTERS};
 use independent::machine::WIDTHS;
 use std::sync::Arc;
 
@@ -23,7 +24,7 @@ use std::sync::Arc;
 const FIRST_QUESTION: u64 = 4096 + questions::UNFIT as u64;
 
 /// An area's name, and how many cases of it one run tries.
-pub const AREAS: [(&str, u64); 20] = [
+pub const AREAS: [(&str, u64); 21] = [
     ("emulate", 50_000),
     ("emulate-state", 12_000),
     ("limits", 0),
@@ -44,6 +45,7 @@ pub const AREAS: [(&str, u64); 20] = [
     ("device-splits", 6_000),
     ("twin", 4_000),
     ("constants", 40_000),
+    ("register-sets", 4_000),
 ];
 
 pub struct Maker {
@@ -166,6 +168,10 @@ impl Maker {
                 Some(known) => Case::KnownConstants(known.clone()),
                 None => Case::Constants(constant_lines::line(r)),
             }],
+            "register-sets" => {
+                let text = register_sets::text(r);
+                both(r, text)
+            }
             name => unreachable!("no area {}", name),
         }
     }
@@ -198,7 +204,7 @@ impl Maker {
     fn by_both(&self, case: Case) -> Vec<Case> {
         match (&case, &self.twin_read) {
             (Case::EmulateDevices(machine), Some(twin)) => {
-                let rows = EvaluateStart { text: self.twin.clone(), memory: Vec::new(), registers: [0; 16], budget: 0, rows: vec![9; 128] };
+                let rows = EvaluateStart { text: self.twin.clone(), memory: Vec::new(), registers: [0; REGISTERS], budget: 0, rows: vec![9; 128] };
                 let same = Case::Twin(of_twin(machine, twin, rows));
                 vec![case, same]
             }
@@ -239,7 +245,7 @@ fn widths(text: &[u8]) -> Vec<u8> {
 
 /// A fitting state, RUN being 1 nearly always.
 fn with_state(random: &mut Random, text: Vec<u8>) -> EvaluateStart {
-    let mut registers = [0; 16];
+    let mut registers = [0; REGISTERS];
     if let Ok(d) = description(&text) {
         for (place, register) in d.registers.iter().enumerate() {
             registers[place] = random.bits(register.width);

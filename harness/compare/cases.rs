@@ -8,6 +8,7 @@ use crate::device_starts::{DeviceEvaluateStart, DeviceStart};
 use crate::entries;
 use crate::images::Start;
 use crate::programs::{self, Program};
+use independent::rows::Registers;
 use std::sync::Arc;
 
 /// What the evaluator is called with.
@@ -15,7 +16,7 @@ use std::sync::Arc;
 pub struct EvaluateStart {
     pub text: Vec<u8>,
     pub memory: Vec<u16>,
-    pub registers: [u16; 16],
+    pub registers: Registers,
     pub budget: u64,
     pub rows: Vec<u8>,
 }

@@ -3,7 +3,7 @@
 use crate::constant_coverage::ConstantCoverage;
 use crate::device_coverage::{self, DeviceCoverage};
 use crate::{edges, limits};
-use independent::description::{Description, Row};
+use independent::description::{Description, Row, REGISTERS};
 use independent::expression::{Binary, Destination, Expression, Kind};
 use independent::watch::{Event, Watch};
 use std::collections::BTreeMap;
@@ -20,6 +20,9 @@ pub struct Coverage {
     just_stored: Option<u16>,
     /// How often each of EVENTS happened.
     events: [u64; 9],
+    /// How often the register at each place was read by a row that acted, and how often it took a value.
+    read: [u64; REGISTERS],
+    taken: [u64; REGISTERS],
     /// What happened with devices.
     devices: DeviceCoverage,
     /// What was read of constants.
@@ -58,6 +61,8 @@ impl Coverage {
             stored: vec![false; 4096],
             just_stored: None,
             events: [0; 9],
+            read: [0; REGISTERS],
+            taken: [0; REGISTERS],
             devices: DeviceCoverage::new(),
             constants: ConstantCoverage::new(),
         }
@@ -80,6 +85,8 @@ impl Coverage {
         self.words.iter_mut().zip(&other.words).for_each(|(own, count)| *own += count);
         self.explained.iter_mut().zip(&other.explained).for_each(|(own, count)| *own += count);
         self.events.iter_mut().zip(&other.events).for_each(|(own, count)| *own += count);
+        self.read.iter_mut().zip(&other.read).for_each(|(own, count)| *own += count);
+        self.taken.iter_mut().zip(&other.taken).for_each(|(own, count)| *own += count);
         self.devices.add(&other.devices);
         self.constants.add(&other.constants);
     }
@@ -139,8 +146,10 @@ impl Coverage {
                             self.count("a memory destination");
                             self.expression(address);
                         }
-                        Destination::Part(part) if part.whole => self.count("a register destination"),
-                        Destination::Part(_) => self.count("a bit part destination"),
+                        Destination::Part(part) => {
+                            self.taken[part.register] += 1;
+                            self.count(if part.whole { "a register destination" } else { "a bit part destination" });
+                        }
                     }
                 }
             }
@@ -152,8 +161,10 @@ impl Coverage {
 
     fn expression(&mut self, expression: &Expression) {
         match &expression.kind {
-            Kind::Part(part) if part.whole => self.count("a register"),
-            Kind::Part(_) => self.count("a bit part"),
+            Kind::Part(part) => {
+                self.read[part.register] += 1;
+                self.count(if part.whole { "a register" } else { "a bit part" });
+            }
             Kind::Constant(_) => self.count("a constant"),
             Kind::Word(address) => {
                 self.count("a memory word");
@@ -184,6 +195,8 @@ impl Coverage {
         missing.extend((0..4096).filter(|i| self.words[*i] == 0).map(|i| format!("instruction {:04o}", i)));
         missing.extend((0..4096).filter(|i| self.explained[*i] == 0).map(|i| format!("instruction {:04o} explained", i)));
         missing.extend((0..EVENTS.len()).filter(|i| self.events[*i] == 0).map(|i| EVENTS[i].to_string()));
+        missing.extend((0..REGISTERS).filter(|place| self.read[*place] == 0).map(|place| format!("the register at place {} read", place)));
+        missing.extend((0..REGISTERS).filter(|place| self.taken[*place] == 0).map(|place| format!("the register at place {} stored to", place)));
         missing.extend(self.devices.missing());
         missing.extend(self.constants.missing());
         missing
@@ -196,6 +209,8 @@ impl Coverage {
         for (count, name) in self.events.iter().zip(EVENTS) {
             println!("{:>12}  {}", count, name);
         }
+        let least = |counts: &[u64]| counts.iter().min().copied().unwrap_or(0);
+        println!("{:>12}  reads of each register place, at least; each stored to at least {} times", least(&self.read), least(&self.taken));
         self.devices.print();
         self.constants.print();
         for op in 0..8 {
@@ -206,7 +221,7 @@ impl Coverage {
 
     /// The things to be tried, and how many steps were watched.
     pub fn totals(&self) -> (usize, u64) {
-        let things = required().len() + 2 * 4096 + EVENTS.len() + DeviceCoverage::things() + ConstantCoverage::things();
+        let things = required().len() + 2 * 4096 + EVENTS.len() + 2 * REGISTERS + DeviceCoverage::things() + ConstantCoverage::things();
         (things, self.words.iter().sum())
     }
 }

@@ -6,6 +6,7 @@ use crate::coverage::Coverage;
 use crate::device_cases::{own_emulation, own_evaluation};
 use crate::device_starts::{DeviceEvaluateStart, DeviceStart};
 use crate::images::Start;
+use independent::description::REGISTERS;
 use independent::emulate_devices::widths;
 use independent::state::{HALTED, PAPER, SPENT};
 
@@ -141,7 +142,7 @@ fn text(key_byte: u8, last: &str) -> Vec<u8> {
 /// Cycles of rows.
 fn rows(edges: &mut Vec<DeviceEdge>) {
     let mut add = |name: &str, text: Vec<u8>, budget, room, outcome: [u64; 6], left: [u16; 7], printed: usize| {
-        let (mut registers, mut end) = ([0; 16], [0; 16]);
+        let (mut registers, mut end) = ([0; REGISTERS], [0; REGISTERS]);
         registers[0] = 1;
         end[..7].copy_from_slice(&left);
         let start = EvaluateStart { text, memory: vec![0; 4096], registers, budget, rows: vec![9; 128] };

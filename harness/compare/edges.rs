@@ -2,6 +2,7 @@
 
 use crate::cases::{Case, EvaluateStart};
 use crate::images::Start;
+use independent::description::REGISTERS;
 use independent::machine::WIDTHS;
 
 pub struct Edge {
@@ -15,10 +16,15 @@ pub struct Edge {
 /// Every limit that has to be reached and passed.
 pub const NAMES: [&str; 6] = ["memory length", "word", "register value", "unused place", "budget", "row list"];
 
-/// Registers of widths 1 to 15, RUN first; the sixteenth place is unused.
-fn text() -> Vec<u8> {
-    let registers: String = (2..16).map(|width| format!("reg\tr{}\t{}\n", width, width)).collect();
+/// So many registers, RUN first; the places behind them are unused.
+fn text(count: usize) -> Vec<u8> {
+    let registers: String = (1..count).map(|place| format!("reg\tr{}\t{}\n", place, width_at(place))).collect();
     format!("rows\t1\nreg\tRUN\t1\n{}do\t1\tRUN\t0\n", registers).into_bytes()
+}
+
+/// Widths 1 to 15, over and over: a value can be one bit wider.
+fn width_at(place: usize) -> usize {
+    place % 15 + 1
 }
 
 /// HLT at 0200, from where it is executed.
@@ -29,9 +35,13 @@ fn emulation() -> Start {
 }
 
 fn evaluation() -> EvaluateStart {
-    let mut registers = [0; 16];
+    evaluation_of(15)
+}
+
+fn evaluation_of(count: usize) -> EvaluateStart {
+    let mut registers = [0; REGISTERS];
     registers[0] = 1;
-    EvaluateStart { text: text(), memory: vec![0o7777; 4096], registers, budget: 3, rows: vec![9; 128] }
+    EvaluateStart { text: text(count), memory: vec![0o7777; 4096], registers, budget: 3, rows: vec![9; 128] }
 }
 
 struct Edges(Vec<Edge>);
@@ -81,12 +91,23 @@ impl Edges {
                 self.add("register value", answer, Case::Emulate(start));
             }
         }
-        for place in 0..16 {
-            let width = if place == 15 { 0 } else { place + 1 };
-            let name = if place == 15 { "unused place" } else { "register value" };
+        for count in [1, 15, 16, 17, 31, 32] {
+            self.places(count);
+        }
+    }
+
+    /// Every place of a set with so many registers, used or not, one and two of them too wide.
+    fn places(&mut self, count: usize) {
+        for place in 0..REGISTERS {
+            let used = place < count;
+            let width = if used { width_at(place) } else { 0 };
+            let name = if used { "register value" } else { "unused place" };
             for (value, answer) in [((1u16 << width) - 1, [0, 0]), (1 << width, [13, place as u64]), (0xffff, [13, place as u64])] {
-                let mut start = evaluation();
+                let mut start = evaluation_of(count);
                 start.registers[place] = value;
+                self.add(name, answer, Case::Evaluate(start.clone()));
+                start.registers[REGISTERS - 1] = 0xffff;
+                let answer = if answer[0] == 0 { [13, REGISTERS as u64 - 1] } else { answer };
                 self.add(name, answer, Case::Evaluate(start));
             }
         }

@@ -1,6 +1,7 @@
 //! Calls of the C entries under test. Everything lent to an entry stands between guard places, which have to stay.
 
 use crate::library::{first, guavachisel_emulate, guavachisel_evaluate, guavachisel_read, guavachisel_read_constant, told, CONSTANT_PLACES, OUTCOME_PLACES};
+use independent::rows::Registers;
 
 const GUARDS: usize = 16;
 
@@ -76,7 +77,7 @@ pub fn read_constant(line: &[u8], start: u64) -> [u64; CONSTANT_PLACES] {
     answer
 }
 
-pub fn evaluate(text: &[u8], memory: &mut [u16], registers: &mut [u16; 16], budget: u64, rows: &mut [u8]) -> [u64; 4] {
+pub fn evaluate(text: &[u8], memory: &mut [u16], registers: &mut Registers, budget: u64, rows: &mut [u8]) -> [u64; 4] {
     let mut bytes = Guarded::new(text, b'1');
     let mut words = Guarded::new(memory, 0xa5a5);
     let mut values = Guarded::new(&registers[..], 0x5a5a);

@@ -113,9 +113,9 @@ impl Limits {
     }
 
     fn counts(&mut self) {
-        for count in [15, 16, 17, 18] {
-            let registers: String = (1..count).map(|n| format!("reg\tr{}\t{}\n", n, n.min(16))).collect();
-            let answer = if count <= 16 { [0, 0] } else { [7, 18] };
+        for count in [15, 16, 17, 18, 31, 32, 33, 34] {
+            let registers: String = (1..count).map(|n| format!("reg\tr{}\t{}\n", n, n % 16 + 1)).collect();
+            let answer = if count <= 32 { [0, 0] } else { [7, 34] };
             self.add("registers", format!("rows\t1\nreg\tRUN\t1\n{}", registers), answer);
         }
         for count in [127, 128, 129, 130] {

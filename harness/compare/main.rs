@@ -27,6 +27,7 @@ mod limits;
 mod programs;
 mod questions;
 mod random;
+mod register_sets;
 mod shrink;
 mod states;
 mod texts;

@@ -42,10 +42,10 @@ struct Size {
 
 /// Mostly small; now and then about as many registers, rows, labels or pieces as a text may have.
 fn size(random: &mut Random) -> Size {
-    let registers = *random.pick(&[1, 2, 3, 4, 6, 8, 12, 15, 16]);
+    let registers = *random.pick(&[1, 2, 3, 4, 6, 8, 12, 16, 17, 24, 32]);
     let rows = *random.pick(&[0, 1, 1, 2, 3, 5, 8, 12, 20, 30]);
     match random.below(120) {
-        0 => Size { registers: random.between(14, 17), rows, labels: 32, pieces: 32 },
+        0 => Size { registers: random.between(30, 33), rows, labels: 32, pieces: 32 },
         1 => Size { registers, rows: random.between(126, 130), labels: 32, pieces: 3 },
         2 => Size { registers, rows: 100, labels: 33, pieces: 3 },
         3 => Size { registers, rows: random.between(50, 100), labels: 32, pieces: 32 },

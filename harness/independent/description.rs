@@ -6,7 +6,7 @@ use crate::state::{refuse, Refusal};
 
 /// Limits of a text.
 pub const TEXT_BYTES: usize = 16384;
-pub const REGISTERS: usize = 16;
+pub const REGISTERS: usize = 32;
 pub const ROWS: usize = 128;
 pub const LABELS: usize = 32;
 pub const ALL_PIECES: usize = 1024;

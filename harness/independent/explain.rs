@@ -1,6 +1,6 @@
 //! The desk's program: from the bytes of a question, and the shipped descriptions, to the bytes printed.
 
-use crate::description::{description, Description};
+use crate::description::{description, Description, REGISTERS};
 use crate::devices::DEVICE_REGISTERS;
 use crate::emulate::emulate;
 use crate::emulate_devices::{emulate_devices, widths};
@@ -10,6 +10,7 @@ use crate::lines::lines;
 use crate::listing::{image_line, octal};
 use crate::machine::{word_at, Memory, WORDS};
 use crate::mnemonic::mnemonic;
+use crate::rows::Registers;
 use crate::state::{BUDGET, ROW_PLACES};
 
 const NAMES: [&str; 6] = ["LAC", "PC", "RUN", "INTERRUPT.ENABLE", "INTERRUPT.REQUEST", "SWITCHES"];
@@ -130,8 +131,8 @@ fn after(question: &Question, budget: u64) -> Run {
 }
 
 /// The rows of the description that acted in the last cycle, and the register values that the run leaves.
-fn by_rows(question: &Question, text: &[u8]) -> (Vec<u8>, [u16; 16]) {
-    let (mut memory, mut values, mut rows) = (question.memory, [0; 16], [0; ROW_PLACES]);
+fn by_rows(question: &Question, text: &[u8]) -> (Vec<u8>, Registers) {
+    let (mut memory, mut values, mut rows) = (question.memory, [0; REGISTERS], [0; ROW_PLACES]);
     values[..6].copy_from_slice(&question.registers);
     let listed = if question.with_devices {
         values[6..11].copy_from_slice(&question.devices);

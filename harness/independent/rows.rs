@@ -1,12 +1,12 @@
 //! What rows mean: the value of an expression, what a destination takes, and a cycle. It walks the trees that the reader has
 //! made, sentence by sentence as document 01 has them, and works nothing out before.
 
-use crate::description::Row;
+use crate::description::{Row, REGISTERS};
 use crate::expression::{Binary, Destination, Expression, Kind, Part};
 use crate::machine::{Memory, WORD};
 
-/// The evaluator's sixteen places.
-pub type Registers = [u16; 16];
+/// The evaluator's places.
+pub type Registers = [u16; REGISTERS];
 
 /// The largest value of so many bits.
 fn largest(width: u8) -> u16 {

@@ -1,4 +1,4 @@
-# The 16th register is turned down.
-# areas: limits
+# The 32nd register is turned down.
+# areas: limits register-sets
 # file: harness/independent/description.rs
-s/REGISTERS: usize = 16/REGISTERS: usize = 15/
+s/self.registers.len() <= REGISTERS/self.registers.len() < REGISTERS/

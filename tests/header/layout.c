@@ -9,9 +9,9 @@
     SAME(type##_##field##_at, offsetof(type, field), (place) * (size));                                                                                          \
     SAME(type##_##field##_size, sizeof(((type *)0)->field), size)
 
-SAME(version, GUAVACHISEL_VERSION, 2);
+SAME(version, GUAVACHISEL_VERSION, 3);
 SAME(words, GUAVACHISEL_WORDS, 4096);
-SAME(registers, GUAVACHISEL_REGISTERS, 16);
+SAME(registers, GUAVACHISEL_REGISTERS, 32);
 SAME(rows, GUAVACHISEL_ROWS, 128);
 SAME(budget, GUAVACHISEL_BUDGET, 1000000);
 SAME(text_bytes, GUAVACHISEL_TEXT_BYTES, 16384);
@@ -31,8 +31,8 @@ AT(guavachisel_devices, printer_flag, 2, 2);
 AT(guavachisel_devices, print_byte, 3, 2);
 AT(guavachisel_devices, print_mark, 4, 2);
 
-SAME(registers_size, sizeof(guavachisel_registers), 32);
-AT(guavachisel_registers, values, 0, 32);
+SAME(registers_size, sizeof(guavachisel_registers), 64);
+AT(guavachisel_registers, values, 0, 64);
 
 SAME(outcome_size, sizeof(guavachisel_outcome), 72);
 AT(guavachisel_outcome, refusal, 0, 8);

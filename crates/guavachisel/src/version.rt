@@ -2,7 +2,7 @@
 ghost use mathlib.Core.Path.{_≡_};
 ghost use Rattle.guavachisel.specs.Version.{version};
 
-const VERSION: u64 = 2;
+const VERSION: u64 = 3;
 
 // The version that this library was made for.
 #[no_mangle]

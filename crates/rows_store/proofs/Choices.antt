@@ -1,4 +1,4 @@
--- A list with another value at a place, by a choice at one place after the other.
+-- A list with another value at a place, which a function makes of the one that stood there, by a choice at one place after the other.
 -- Assumes nothing.
 use mathlib.Core.Path.{_≡_, refl, sym, ap, _∙_}
 use mathlib.Core.Bool.{Bool, true, false}
@@ -26,17 +26,19 @@ passed i k h = from (ltb i k) refl
     from true e = e ∙ sym (lt-ltb i (k + 1) (omega (arith, ltb-true i k e)))
     from false e = e ∙ sym (le-ltb i (k + 1) (omega (arith, ltb-false i k e, h)))
 
-pub one-choice : (l : List ℕ) (i z k : ℕ) → set (chosen l i z k) k (pick (eqb i k) z (getD (chosen l i z k) k 0)) ≡ chosen l i z (k + 1)
-one-choice l i z k = by (eqb i k) refl
+pub one-choice : (l : List ℕ) (i k : ℕ) (f : ℕ → ℕ) (w : List ℕ) → w ≡ chosen l i (f (getD l i 0)) k
+    → set w k (pick (eqb i k) (f (getD w k 0)) (getD w k 0)) ≡ chosen l i (f (getD l i 0)) (k + 1)
+one-choice l i k f w q = by (eqb i k) refl
   where
-    by : (t : Bool) → eqb i k ≡ t → set (chosen l i z k) k (pick t z (getD (chosen l i z k) k 0)) ≡ chosen l i z (k + 1)
+    by : (t : Bool) → eqb i k ≡ t → set w k (pick t (f (getD w k 0)) (getD w k 0)) ≡ chosen l i (f (getD l i 0)) (k + 1)
     by true e =
         let here = eqb-true i k e in
-        ap (λ (t : Bool). set (pick t (set l i z) l) k z) (le-ltb i k (omega (arith, here)))
-        ∙ ap (λ (n : ℕ). set l n z) (sym here)
-        ∙ sym (ap (λ (t : Bool). pick t (set l i z) l) (lt-ltb i (k + 1) (omega (arith, here))))
+        let before : w ≡ l = q ∙ ap (λ (t : Bool). pick t (set l i (f (getD l i 0))) l) (le-ltb i k (omega (arith, here))) in
+        ap (λ (x : List ℕ). set x k (f (getD x k 0))) before
+        ∙ ap (λ (n : ℕ). set l n (f (getD l n 0))) (sym here)
+        ∙ sym (ap (λ (t : Bool). pick t (set l i (f (getD l i 0))) l) (lt-ltb i (k + 1) (omega (arith, here))))
     by false e =
-        set-getD (chosen l i z k) k 0 ∙ ap (λ (t : Bool). pick t (set l i z) l) (passed i k (eqb-false i k e))
+        set-getD w k 0 ∙ q ∙ ap (λ (t : Bool). pick t (set l i (f (getD l i 0))) l) (passed i k (eqb-false i k e))
 
 pub all-chosen : (l : List ℕ) (i z k : ℕ) → i < k → chosen l i z k ≡ set l i z
 all-chosen l i z k h = ap (λ (t : Bool). pick t (set l i z) l) (lt-ltb i k h)

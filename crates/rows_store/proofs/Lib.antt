@@ -1,4 +1,5 @@
 pub mod Powers
 pub mod Remainders
 pub mod Storing
+pub mod Flips
 mod Choices

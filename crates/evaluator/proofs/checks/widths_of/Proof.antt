@@ -43,11 +43,11 @@ loop-less c =
 loop-again : tie.Need-loop-again Inv-loop μ-loop
 loop-again c =
     let l = c .before .before .loop in
-    filled-next _ (l .i) (l .w) _ (l .inv) (c .before .loop-test .taken) (c .width-at .ensures)
+    filled-next _ (l .i) (l .w) _ (l .inv) (omega (arith, c .before .loop-test .taken)) (c .width-at .ensures)
 
 returns : tie.Need-returns Inv-loop μ-loop
 returns c =
-    filled-end _ (c .before .loop .i) (c .before .loop .w) (c .before .loop .inv) (c .loop-test .left)
+    filled-end _ (c .before .loop .i) (c .before .loop .w) (c .before .loop .inv) (omega (arith, c .loop-test .left))
 
 pub widths-of-spec : {M : Type 1} → statement M
 widths-of-spec =

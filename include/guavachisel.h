@@ -145,7 +145,8 @@ void guavachisel_read_constant(const uint8_t *GUAVACHISEL_RESTRICT line, size_t 
 
 /*
  * Runs a description's rows for at most `budget` cycles, and lists the rows that acted in the last cycle, rising, in the first places of `rows`; later places
- * stay. Refusals 1 to 8, then 11 to 15. Speaks of refusal, place, steps, reason and rows.
+ * stay. Refusals 1 to 8, then 11 to 15; 13 looks at all places of `registers`, also behind the description's last one, where only 0 passes. Speaks of refusal, place,
+ * steps, reason and rows.
  */
 void guavachisel_evaluate(const uint8_t *GUAVACHISEL_RESTRICT text, size_t bytes, uint16_t *GUAVACHISEL_RESTRICT memory, size_t words,
                           guavachisel_registers *GUAVACHISEL_RESTRICT registers, uint64_t budget, uint8_t *GUAVACHISEL_RESTRICT rows, size_t places,

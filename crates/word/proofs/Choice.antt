@@ -3,8 +3,8 @@
 use mathlib.Core.Path.{_≡_, refl, ap}
 use native.Mathlib.Omega.{arith}
 use Prim.Native.Nat.{ℕ, zero, suc, _<_}
-use mathlib.Core.Bool.{Bool, true, false, not, _&&_}
-use lib.Bits.{bitAnd}
+use mathlib.Core.Bool.{Bool, true, false, not, _&&_, _||_}
+use lib.Bits.{bitAnd, bitOr}
 use borrow.Author.Tests.{ne-eqb}
 use Rattle.word.specs.Choice.{on, pick, bit}
 
@@ -43,3 +43,13 @@ on-and (suc zero) (suc zero) h q = refl
 on-and (suc (suc a)) b h q = absurd (omega arith)
 on-and zero (suc (suc b)) h q = absurd (omega arith)
 on-and (suc zero) (suc (suc b)) h q = absurd (omega arith)
+
+-- two bits of which one is on, as one test of their or
+pub on-or : (a b : ℕ) → a < 2 → b < 2 → on a || on b ≡ on (bitOr a b)
+on-or zero zero h q = refl
+on-or zero (suc zero) h q = refl
+on-or (suc zero) zero h q = refl
+on-or (suc zero) (suc zero) h q = refl
+on-or (suc (suc a)) b h q = absurd (omega arith)
+on-or zero (suc (suc b)) h q = absurd (omega arith)
+on-or (suc zero) (suc (suc b)) h q = absurd (omega arith)

@@ -183,6 +183,9 @@ impl Coverage {
             }
             Kind::Two(operator, left, right) => {
                 self.count(operator_name(*operator));
+                if *operator == Binary::Or && one_bit_apart(left, right) {
+                    self.count("an Or of constants that differ in one bit");
+                }
                 self.expression(left);
                 self.expression(right);
             }
@@ -223,6 +226,17 @@ impl Coverage {
     pub fn totals(&self) -> (usize, u64) {
         let things = required().len() + 2 * 4096 + EVENTS.len() + 2 * REGISTERS + DeviceCoverage::things() + ConstantCoverage::things();
         (things, self.words.iter().sum())
+    }
+}
+
+/// Whether two expressions compare the same with constants that differ in one bit.
+fn one_bit_apart(left: &Expression, right: &Expression) -> bool {
+    match (&left.kind, &right.kind) {
+        (Kind::Two(Binary::Eql, a, one), Kind::Two(Binary::Eql, b, other)) => match (&one.kind, &other.kind) {
+            (Kind::Constant(one), Kind::Constant(other)) => a == b && (one ^ other).count_ones() == 1,
+            _ => false,
+        },
+        _ => false,
     }
 }
 
@@ -271,7 +285,7 @@ fn required() -> Vec<String> {
     for thing in ["a go acted", "a row that did not act", "a memory destination", "a register destination", "a bit part destination"] {
         names.push(thing.to_string());
     }
-    for thing in ["a register", "a bit part", "a constant", "a memory word", "a rotation of more places than bits", "accepted by read"] {
+    for thing in ["a register", "a bit part", "a constant", "a memory word", "a rotation of more places than bits", "an Or of constants that differ in one bit", "accepted by read"] {
         names.push(thing.to_string());
     }
     for limit in limits::NAMES.iter().chain(&edges::NAMES) {

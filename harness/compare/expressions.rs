@@ -53,6 +53,26 @@ pub fn destination(random: &mut Random, registers: &[Register], pieces: usize, d
     named(random, &register, 16)
 }
 
+/// Or of two comparisons, mostly of one register or bit part with constants that differ in one bit.
+pub fn alternatives(random: &mut Random, registers: &[Register]) -> Tokens {
+    let register = random.pick(registers).clone();
+    let bits = register.width.min(5);
+    let one = random.bits(bits);
+    let other = if random.once_in(4) { random.bits(bits) } else { one ^ 1 << random.below(bits as usize) };
+    let left = named(random, &register, 16);
+    let right = if random.once_in(6) { named(random, &register, 16) } else { left.clone() };
+    let mut tokens = Vec::new();
+    for (side, constant) in [(left, one), (right, other)] {
+        if !tokens.is_empty() {
+            tokens.push(if random.once_in(6) { "And" } else { "Or" }.to_string());
+        }
+        tokens.extend(side);
+        tokens.push(if random.once_in(6) { "Neq" } else { "Eql" }.to_string());
+        tokens.push(format!("'{:0width$b}", constant, width = bits as usize));
+    }
+    tokens
+}
+
 /// A register or a bit part of it, no wider than asked for.
 fn named(random: &mut Random, register: &Register, width: u8) -> Tokens {
     let mut tokens = vec![register.name.clone()];

@@ -1,6 +1,6 @@
 //! Random descriptions from the grammar. Nearly all of them are accepted.
 
-use crate::expressions::{destination, expression, spaced, Register};
+use crate::expressions::{alternatives, destination, expression, spaced, Register};
 use crate::random::Random;
 
 /// Names that a careless reader might take for something else.
@@ -80,7 +80,11 @@ pub fn row(random: &mut Random, registers: &[Register], most: usize, label: &str
     loop {
         let pieces = most.min(*random.pick(&[1, 3, 5, 8, 12, 20, 32]));
         let depth = random.between(0, 8);
-        let condition = if random.once_in(3) { vec!["1".to_string()] } else { expression(random, registers, pieces, depth, 16) };
+        let condition = match random.below(12) {
+            0..=3 => vec!["1".to_string()],
+            4 if most > 7 && !registers.is_empty() => alternatives(random, registers),
+            _ => expression(random, registers, pieces, depth, 16),
+        };
         let condition = spaced(random, &condition);
         let line = if !label.is_empty() {
             format!("go\t{}\t{}", condition, label)

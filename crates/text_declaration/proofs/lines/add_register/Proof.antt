@@ -2,6 +2,7 @@
 use mathlib.Core.Path.{ap, _∙_}
 use Rattle.text_declaration.specs.Lines.{widthOf}
 use Rattle.text_declaration.proofs.Declarations.{one-register, no-register, bad-register}
+use native.Mathlib.Omega.{arith}
 use borrow.Author.Needs.{needs}
 use Rattle.text_declaration.proofs.lines.add_register.Statement.{statement}
 use Rattle.text_declaration.proofs.lines.add_register.Tie as tie
@@ -45,7 +46,7 @@ returns c =
     let new = rw (tested .before .before .is-new-name .ensures, tested .before .is-width .ensures, number .decimal-at .ensures) at (tested .if1 .taken) in
     let width = c .before .before .width-of .ensures ∙ ap widthOf (number .decimal-at .ensures) in
     one-register (a .text .now) (a .name .now) (a .width .now) (a .q) (called .pre .0) (c .before .with-name .result) (a .start) (c .before .before .width-of .result) (c .taken .result)
-    new (c .before .before .before .if2 .taken) (c .before .with-name .ensures) (called .pre .1 .0) width (c .taken .ensures)
+    new (omega (arith, c .before .before .before .if2 .taken)) (c .before .with-name .ensures) (called .pre .1 .0) width (c .taken .ensures)
 
 returns-2 : tie.Need-returns-2
 returns-2 c =
@@ -54,7 +55,7 @@ returns-2 c =
     let called = number .before .before .before .before .before in
     let a = called .args in
     let new = rw (tested .before .before .is-new-name .ensures, tested .before .is-width .ensures, number .decimal-at .ensures) at (tested .if1 .taken) in
-    no-register (a .text .now) (a .name .now) (a .width .now) (a .q) (called .pre .0) (c .refused .result) new (c .before .if2 .left) (c .refused .ensures)
+    no-register (a .text .now) (a .name .now) (a .width .now) (a .q) (called .pre .0) (c .refused .result) new (omega (arith, c .before .if2 .left)) (c .refused .ensures)
 
 returns-3 : tie.Need-returns-3
 returns-3 c =

@@ -1,51 +1,65 @@
 // The explanation of standard input: reads it in chunks and writes what the library makes of them.
+#![tactic(auto)]
+
+ghost use Rattle.std.specs.Prelude.{◌↔◌, IsTrue, IsSome};
 ghost use Rattle.desk_image.specs.Scan.{Reached};
 ghost use Rattle.desk_inquiry.specs.Scan.{asking, kept};
 
 use desk_inquiry::{Progress, Scanner};
 use desk_run_lines::PAGE_BYTES;
-use libc::{STDIN_FILENO, STDOUT_FILENO};
 use state::MEMORY_WORDS;
+use std::io::{Error, Read};
+use std::process::ExitCode;
 
-// Reads once.
-fn read_some(memory: &mut [u16; MEMORY_WORDS], s: Scanner) -> Progress
-    requires { Reached asking (kept s memory.old) }
-    ensures { Reached asking (kept result.scanner memory.new) }
-{
-    let mut buffer = io::large_buffer();
-    let got = libc::read(STDIN_FILENO, &mut buffer);
-    desk_inquiry::after_read(memory, s, got, &buffer)
+// The scanner after a read, and why the read failed.
+#[derive(Clone, Copy)]
+struct Chunk {
+    progress: Progress,
+    error: Option<Error>,
 }
 
-// Reads to the end. A proved loop has to end, so it counts its reads down, from a number that no run uses up.
-fn read_all(memory: &mut [u16; MEMORY_WORDS]) -> Progress
-    ensures { Reached asking (kept result.scanner memory.new) }
+// Reads once.
+fn read_some<R: Read>(input: &mut R, memory: &mut [u16; MEMORY_WORDS], s: Scanner) -> Chunk
+    requires { Reached asking (kept s memory.old) }
+    ensures reached { Reached asking (kept result.progress.scanner memory.new) }
+    ensures failed { IsTrue result.progress.failed ↔ IsSome result.error }
+{
+    let mut buffer = io::large_buffer();
+    let got = desk_streams::read(input, &mut buffer);
+    let progress = desk_inquiry::after_read(memory, s, got.count, &buffer);
+    Chunk {
+        progress,
+        error: got.error,
+    }
+}
+
+// Reads to the end. A proved loop has to end, so it counts its reads, up to a number that no run uses up.
+fn read_all<R: Read>(input: &mut R, memory: &mut [u16; MEMORY_WORDS]) -> Chunk
+    ensures reached { Reached asking (kept result.progress.scanner memory.new) }
+    ensures failed { IsTrue result.progress.failed ↔ IsSome result.error }
 {
     let first = desk_inquiry::begin(memory);
-    let mut last = read_some(memory, first);
-    let mut left = u64::MAX;
-    while left > 0 {
-        if !last.more {
+    let mut last = read_some(input, memory, first);
+    for _ in 0..u64::MAX {
+        if !last.progress.more {
             break;
         }
-        let s = last.scanner;
-        last = read_some(memory, s);
-        left -= 1;
+        let s = last.progress.scanner;
+        last = read_some(input, memory, s);
     }
     last
 }
 
-fn main() {
+fn main(rt: HostRuntime) -> ExitCode {
     let mut memory = [0u16; MEMORY_WORDS];
-    let last = read_all(&mut memory);
-    if last.failed {
-        os::fail(b"explain: read");
-        return;
+    let last = read_all(&mut rt.stdin(), &mut memory);
+    if let Some(e) = last.error {
+        return desk_streams::fail(&rt.stderr(), rt.alloc(), "explain: read", e);
     }
     let mut page = [0u8; PAGE_BYTES];
-    let s = last.scanner;
-    let n = desk_explanation::explanation(&memory, s, &mut page);
-    if !io::write_all(STDOUT_FILENO, &page[..n]) {
-        os::fail(b"explain: write");
+    let n = desk_explanation::explanation(&memory, last.progress.scanner, &mut page);
+    match rt.write_all(&page[..n]) {
+        Ok(()) => ExitCode::SUCCESS,
+        Err(e) => desk_streams::fail(&rt.stderr(), rt.alloc(), "explain: write", e),
     }
 }

@@ -1,4 +1,6 @@
 // Characters, runs of characters of one class, and byte strings.
+#![tactic(auto)]
+
 ghost use Rattle.std.specs.Prelude.{◌≡◌, get_or, take, drop, ◌+◌};
 ghost use Rattle.characters.specs.Characters.{is_digit, is_letter, belongs, run_end, same};
 
@@ -7,7 +9,7 @@ pub const TAB: u8 = b'\t';
 pub const LINE_FEED: u8 = b'\n';
 
 // What a run consists of.
-#[derive(Drop)]
+#[derive(Clone, Copy)]
 pub enum Class {
     Space,
     // "letters, digits or dots"

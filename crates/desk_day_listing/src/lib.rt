@@ -1,4 +1,6 @@
 // The day listing: a text of octal words is loaded into the machine, and the text of its run is written.
+#![tactic(auto)]
+
 mod lines;
 mod run;
 

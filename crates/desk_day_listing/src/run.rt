@@ -17,7 +17,7 @@ use state::MEMORY_WORDS;
 const BUDGET: u64 = 16;
 
 // A run as far as it is listed: the registers, the steps done, and the place after their lines.
-#[derive(Drop)]
+#[derive(Clone, Copy)]
 struct Progress {
     processor: Processor,
     done: u64,

@@ -1,4 +1,6 @@
 // What a line says: a word of the memory, a register, the budget, the input, or nothing that is known.
+#![tactic(auto)]
+
 ghost use Rattle.std.specs.Prelude.{true, ◌≡◌, ◌+◌, ◌*◌, ◌≤◌, ◌<◌, eqb, length, get_or, take};
 ghost use Rattle.desk_registers.specs.Registers.{desk_registers, desk_widths};
 ghost use Rattle.desk_entry.specs.Octets.{space, octet_at, is_octet, are_octets, octets, Bytes};
@@ -22,7 +24,7 @@ const BYTE_BITS: u64 = 8;
 const SPACE: u8 = 32;
 
 // What a line says.
-#[derive(Drop)]
+#[derive(Clone, Copy)]
 pub enum Entry {
     // address, word
     Word(usize, u16),

@@ -1,4 +1,6 @@
 // The lines of what a run with devices read and printed.
+#![tactic(auto)]
+
 ghost use Rattle.std.specs.Prelude.{◌+◌, ◌*◌, ◌≤◌, eqb, length, take};
 ghost use Rattle.page.specs.Written.{Written};
 ghost use Rattle.desk_exchange.specs.Exchange.{octet, printed_line, exchange_lines};

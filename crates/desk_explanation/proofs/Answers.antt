@@ -41,7 +41,7 @@ use Rattle.evaluator.specs.declared.Outcome.{Outcome}
 use Rattle.evaluator.specs.declared.Outcome.TheVariants.{Ran, Unread, Refused}
 use Rattle.rows_cycles.specs.Cycle.{Cycle}
 use Rattle.shipped_rows.specs.Variant.{registers_of, values_of}
-use Rattle.shipped.specs.Claim.{Claim, emulation, evaluation, by_steps, by_cycles}
+use Rattle.shipped.specs.Claim.{emulation, evaluation, by_cycles}
 use Rattle.desk_run_lines.specs.Registers.{variant_of}
 use Rattle.desk_explanation.specs.declared.Ending.{Ending}
 use Rattle.desk_explanation.specs.Explanation.{paper_places, paper, places_of, told, ran_of, before_last, cycle_of, explained}

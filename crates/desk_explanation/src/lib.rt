@@ -1,4 +1,6 @@
 // The explanation of a run: what an inquiry asks for is run by emulator and evaluator, and the text of how it ended is written.
+#![tactic(auto)]
+
 ghost use Rattle.std.specs.Prelude.{◌≡◌, ◌+◌, ◌*◌, ◌-◌, ◌≤◌, length, take};
 ghost use Rattle.machine_state.specs.Registers.{machine_of};
 ghost use Rattle.page.specs.Page.{Page};
@@ -148,7 +150,7 @@ fn pc_in(m: Machine, a: emulator::Answer) -> u16
 }
 
 // What a run came to: its steps, the registers after it, and how many bytes were read and printed.
-#[derive(Drop)]
+#[derive(Clone, Copy)]
 pub struct Ending {
     pub steps: u64,
     pub machine: Machine,

@@ -1,4 +1,6 @@
 // An image, read byte by byte: lines of four-digit octal address, TAB, four-digit octal word. The words are stored as they come.
+#![tactic(auto)]
+
 ghost use Rattle.std.specs.Prelude.{◌≡◌, ℕ, true, List, []};
 ghost use Rattle.desk_image.specs.Input.{is_digits, is_octal_word, octal_word, is_word_line, stored};
 ghost use Rattle.desk_image.specs.Pass.{Passed};
@@ -12,7 +14,7 @@ use state::MEMORY_WORDS;
 const LINE_BYTES: usize = 9;
 
 // The place in the input: the line's number from 1 and the bytes read of it; and the first line that was refused, or 0.
-#[derive(Drop)]
+#[derive(Clone, Copy)]
 pub struct Scanner {
     pub line: u64,
     pub size: usize,
@@ -21,7 +23,7 @@ pub struct Scanner {
 }
 
 // The scanner after a read, whether the input may go on, and whether the read failed.
-#[derive(Drop)]
+#[derive(Clone, Copy)]
 pub struct Progress {
     pub scanner: Scanner,
     pub more: bool,

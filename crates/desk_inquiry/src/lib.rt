@@ -1,4 +1,6 @@
 // What a run is asked for, read byte by byte: lines of an image, registers, a budget and the input.
+#![tactic(auto)]
+
 ghost use Rattle.std.specs.Prelude.{◌≡◌, ℕ, List, [], slice_set};
 ghost use Rattle.desk_image.specs.Pass.{Passed};
 ghost use Rattle.desk_image.specs.Read.{AfterRead};
@@ -15,7 +17,7 @@ use state::MEMORY_WORDS;
 
 // The place in the text: the line's number from 1 and the bytes read of it; the registers, the budget, the input's bytes, so many at the front of their
 // places, and whether there are devices, so far; and the first line that was refused, or 0.
-#[derive(Drop)]
+#[derive(Clone, Copy)]
 pub struct Scanner {
     pub line: u64,
     pub size: usize,
@@ -29,7 +31,7 @@ pub struct Scanner {
 }
 
 // The scanner after a read, whether the input may go on, and whether the read failed.
-#[derive(Drop)]
+#[derive(Clone, Copy)]
 pub struct Progress {
     pub scanner: Scanner,
     pub more: bool,

@@ -1,4 +1,6 @@
 // The last line of a run, and the one line of a refused text.
+#![tactic(auto)]
+
 ghost use Rattle.std.specs.Prelude.{◌+◌, ◌≤◌, length};
 ghost use Rattle.state.specs.Refusals.{reason_with};
 ghost use Rattle.page.specs.Text.{decimal};

@@ -1,4 +1,6 @@
 // What the last step of a run did: its instruction, and the words of memory that it changed.
+#![tactic(auto)]
+
 ghost use Rattle.std.specs.Prelude.{◌≡◌, ◌+◌, ◌<◌, ◌≤◌, length};
 ghost use Rattle.page.specs.Written.{Written};
 ghost use Rattle.desk_last_step.specs.LastStep.{placed, last_line, change_line, change_lines, last_step};

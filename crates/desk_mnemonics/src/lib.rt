@@ -1,4 +1,6 @@
 // Mnemonics: an instruction by the handbook's names.
+#![tactic(auto)]
+
 ghost use Rattle.std.specs.Prelude.{true, ◌≡◌, [], ◌∷◌, ◌+◌, ◌<◌, ◌≤◌, length, get_or};
 ghost use Rattle.word.specs.Choice.{pick, on};
 ghost use Rattle.machine_state.specs.Instruction.{ib};
@@ -12,7 +14,7 @@ use machine_reference::address::first_address;
 use page::{put_byte, put_octal, put_text};
 
 // A name of the handbook: an instruction has it where the bits of the mask are as in the code.
-#[derive(Drop)]
+#[derive(Clone, Copy)]
 pub struct Name {
     pub mask: u16,
     pub code: u16,

@@ -1,4 +1,6 @@
 // The registers that a question may give and an answer tells: the machine's six, then the devices' five.
+#![tactic(auto)]
+
 ghost use Rattle.std.specs.Prelude.{◌≡◌, ◌<◌, length, get_or};
 ghost use Rattle.characters.specs.Named.{find};
 ghost use Rattle.devices.specs.Devices.{device_registers};

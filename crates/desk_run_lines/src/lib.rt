@@ -1,4 +1,6 @@
 // The lines that tell of a run after its last step: the registers, and the rows that acted with the labels that they name.
+#![tactic(auto)]
+
 pub mod registers;
 pub mod rows;
 

@@ -7,7 +7,7 @@ ghost use Rattle.desk_teletype.specs.Keys.{key_bytes, none, typed, wanted as isW
 pub const KEY_BYTES: usize = 65536;
 
 // So many from a place on; and whether more may be typed.
-#[derive(Drop)]
+#[derive(Clone, Copy)]
 pub struct Keys {
     pub at: usize,
     pub left: usize,

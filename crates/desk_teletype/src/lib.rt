@@ -1,4 +1,6 @@
 // A sitting at the teletype: the machine with keyboard and teleprinter, run in turns. Between two turns whoever sits there writes what was printed and fetches keys.
+#![tactic(auto)]
+
 pub mod keys;
 pub mod words;
 
@@ -14,7 +16,7 @@ use state::MEMORY_WORDS;
 const TURN_STEPS: u64 = 100_000;
 
 // The registers of the machine and of its devices, and how many steps of the budget are left.
-#[derive(Drop)]
+#[derive(Clone, Copy)]
 pub struct Sitting {
     pub machine: Machine,
     pub devices: Devices,
@@ -22,7 +24,7 @@ pub struct Sitting {
 }
 
 // What a turn leaves: the sitting, the keys that the machine took, the bytes that it printed, and whether another turn follows.
-#[derive(Drop)]
+#[derive(Clone, Copy)]
 pub struct Turn {
     pub sitting: Sitting,
     pub read: usize,

@@ -14,7 +14,7 @@ pub const LINE_BYTES: usize = 32;
 const BUDGET_DIGITS: usize = 16;
 
 // A budget's steps, or that a text is none.
-#[derive(Drop)]
+#[derive(Clone, Copy)]
 pub enum Budget {
     Steps(u64),
     Unfit,

@@ -14,7 +14,7 @@ const BYTE_BITS: u64 = 8;
 const NAME_BYTES: usize = 13;
 
 // A register: its bits, and its name, so many first bytes of the letters.
-#[derive(Drop)]
+#[derive(Clone, Copy)]
 pub struct DeviceRegister {
     pub width: u16,
     pub size: usize,

@@ -27,7 +27,7 @@ fn rise(c: Devices) -> Devices
 }
 
 // The devices after the start of a step, and the number of bytes read.
-#[derive(Drop)]
+#[derive(Clone, Copy)]
 pub struct Begun {
     pub devices: Devices,
     pub read: usize,

@@ -1,4 +1,6 @@
 // The emulator's entries, without devices and with them: any memory, registers, budget, input and output.
+#![tactic(auto)]
+
 ghost use Rattle.std.specs.Prelude.{◌≡◌, ◌++◌, length};
 ghost use Rattle.state.specs.Checks.{check_state};
 ghost use Rattle.devices.specs.Devices.{device_widths, device_values, DevicesFit};
@@ -17,7 +19,7 @@ use machine_state::{Machine, Processor};
 use state::{Reason, Refusal, Verdict};
 
 // The emulator's answer: the registers, reason and steps of a run, or why there was none.
-#[derive(Drop)]
+#[derive(Clone, Copy)]
 pub enum Answer {
     Ran(Machine, Reason, u64),
     Refused(Refusal),
@@ -82,7 +84,7 @@ pub fn emulate(memory: &mut [u16], m: Machine, budget: u64) -> Answer
 }
 
 // The emulator's answer with devices: the devices, as they came after a refusal, the bytes that arrived and the bytes printed.
-#[derive(Drop)]
+#[derive(Clone, Copy)]
 pub struct DeviceAnswer {
     pub answer: Answer,
     pub devices: Devices,

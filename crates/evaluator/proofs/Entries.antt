@@ -155,7 +155,7 @@ module _ (text : List ℕ) (r : Findings) {code₀ code table₀ table : List �
     run_below =
         let rs = described.registers in
         let place = find run_name rs in
-        let h = ltb-true place (length rs) (and_left (ltb place (length rs)) (eqb (width_in rs place) 1) formed.has-run) in
+        let h = ltb-true place (length rs) (and_left (ltb place (length rs)) (eqb (width_in rs place) 1) formed.has_run_lem) in
         omega (arith, h, formed.few_registers)
 
     run_read : (place : ℕ) → place ≡ find run_name described.registers → (s : State) → run_at place s ≡ running described s

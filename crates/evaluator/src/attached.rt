@@ -15,7 +15,7 @@ fn has_width(d: Dictionary, place: usize, width: u16) -> bool
 }
 
 // The five places, and whether all five registers are there with their widths.
-#[derive(Drop)]
+#[derive(Clone, Copy)]
 pub struct Places {
     pub all: bool,
     pub places: [usize; DEVICE_REGISTERS],

@@ -1,4 +1,6 @@
 // The evaluator: runs a description's rows, cycle by cycle, and lists the rows that acted.
+#![tactic(auto)]
+
 mod attached;
 mod checks;
 mod list;
@@ -22,7 +24,7 @@ use text_description::reader;
 use text_limits::MOST_ROWS;
 
 // What came of a call.
-#[derive(Drop)]
+#[derive(Clone, Copy)]
 pub enum Outcome {
     // reason, cycles done, rows listed
     Ran(Reason, u64, usize),
@@ -33,14 +35,14 @@ pub enum Outcome {
 }
 
 // The registers, as they came after a refusal, beside what came of the call.
-#[derive(Drop)]
+#[derive(Clone, Copy)]
 pub struct Answer {
     pub registers: Registers,
     pub outcome: Outcome,
 }
 
 // The same, and how many bytes of the input were read and printed to the output.
-#[derive(Drop)]
+#[derive(Clone, Copy)]
 pub struct DeviceAnswer {
     pub answer: Answer,
     pub read: usize,

@@ -1,4 +1,6 @@
 // The C interface. Each function takes whatever a caller hands over, and its contract says all that the caller finds afterwards.
+#![tactic(auto)]
+
 pub mod constants;
 pub mod device_emulation;
 pub mod device_evaluation;

@@ -17,7 +17,7 @@ const READ_PLACE: usize = 5;
 const PRINTED_PLACE: usize = 6;
 
 // An outcome, as the header names its places.
-#[derive(Drop)]
+#[derive(Clone, Copy)]
 pub struct Outcome {
     pub refusal: u64,
     pub place: u64,

@@ -1,4 +1,6 @@
 // The machine with keyboard and teleprinter: the eight instructions of the two, and a run.
+#![tactic(auto)]
+
 mod instructions;
 pub mod run;
 mod work;
@@ -7,7 +9,7 @@ use devices::Devices;
 use machine_state::Processor;
 
 // The machine's registers, and the devices'.
-#[derive(Drop)]
+#[derive(Clone, Copy)]
 pub struct Console {
     pub processor: Processor,
     pub devices: Devices,

@@ -12,7 +12,7 @@ use devices::session::{begin, print};
 use machine_state::Processor;
 
 // What a run leaves: the machine's registers and the devices', the steps made, the bytes read and the bytes printed.
-#[derive(Drop)]
+#[derive(Clone, Copy)]
 pub struct SessionEnd {
     pub processor: Processor,
     pub devices: Devices,

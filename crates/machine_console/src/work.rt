@@ -17,7 +17,7 @@ use machine_state::Processor;
 use machine_state::memory::load;
 
 // The registers and devices that a round leaves, and the steps made by then.
-#[derive(Drop)]
+#[derive(Clone, Copy)]
 pub struct Worked {
     pub processor: Processor,
     pub devices: Devices,

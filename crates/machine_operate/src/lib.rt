@@ -1,4 +1,6 @@
 // Op 7: the operate instructions.
+#![tactic(auto)]
+
 mod accumulator;
 pub mod groups;
 mod rotate;

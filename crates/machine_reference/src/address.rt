@@ -17,11 +17,11 @@ const PAGES: u64 = 32;
 const PAGE_WORDS: u64 = 128;
 
 // One of the 32 pages.
-#[derive(Drop)]
+#[derive(Clone, Copy)]
 pub struct PageNumber(pub u64);
 
 // One of the 128 words of a page.
-#[derive(Drop)]
+#[derive(Clone, Copy)]
 pub struct PageAddress(pub u64);
 
 // The address of a word of a page.

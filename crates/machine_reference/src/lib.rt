@@ -1,4 +1,6 @@
 // Ops 0 to 5, which work on the word at an address.
+#![tactic(auto)]
+
 pub mod address;
 mod operations;
 

@@ -11,7 +11,7 @@ use crate::step::step;
 use machine_state::Processor;
 
 // The registers that steps leave, and their number.
-#[derive(Drop)]
+#[derive(Clone, Copy)]
 pub struct Progress {
     pub processor: Processor,
     pub steps: u64,

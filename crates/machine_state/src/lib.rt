@@ -1,4 +1,6 @@
 // The parts that every instruction shares: the registers and their table, words of memory, and the interrupt test with op 6, which switches it.
+#![tactic(auto)]
+
 pub mod interrupt;
 pub mod memory;
 pub mod registers;
@@ -7,7 +9,7 @@ pub mod registers;
 pub const LAC_VALUES: u64 = 8192;
 
 // The machine registers, in document 01's order, as a caller hands them over.
-#[derive(Drop)]
+#[derive(Clone, Copy)]
 pub struct Machine {
     pub lac: u16,
     pub pc: u16,
@@ -18,7 +20,7 @@ pub struct Machine {
 }
 
 // The same registers as the emulator works with them, each in a machine word of its own.
-#[derive(Drop)]
+#[derive(Clone, Copy)]
 pub struct Processor {
     pub lac: u64,
     pub pc: u64,

@@ -14,7 +14,7 @@ pub const MACHINE_REGISTERS: usize = 6;
 pub const NAME_BYTES: usize = 20;
 
 // A register: its bits, and its name, so many first bytes of the letters.
-#[derive(Drop)]
+#[derive(Clone, Copy)]
 pub struct Register {
     pub width: u64,
     pub size: usize,

@@ -1,4 +1,6 @@
 // Text on a page: bytes, texts and numbers, written from a place on. Each answers the place after what it wrote.
+#![tactic(auto)]
+
 ghost use Rattle.std.specs.Prelude.{◌+◌, ◌<◌, ◌≤◌, [], ◌∷◌, length, ◌≡◌};
 ghost use Rattle.characters.specs.Ascii.{tab, digit as Text·digit};
 ghost use Rattle.page.specs.Text.{octal, decimal};

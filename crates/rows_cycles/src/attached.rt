@@ -50,7 +50,7 @@ fn with_devices(
 }
 
 // The registers that a cycle finds, and the number of bytes read.
-#[derive(Drop)]
+#[derive(Clone, Copy)]
 pub struct Beginning {
     pub registers: Registers,
     pub read: usize,

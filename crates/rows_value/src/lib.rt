@@ -1,7 +1,9 @@
 // The value of an expression, from its words: postfix, four places a word.
+#![tactic(auto)]
+
 ghost use Rattle.std.specs.Prelude.{◌≡◌, ◌+◌, ◌*◌, ◌≤◌, length, get_or};
 ghost use Rattle.state.specs.Limits.{memory_words};
-ghost use Rattle.rows_value.specs.Words.{leaf_value, word_value, pops as Words·pops, result, code_places, between};
+ghost use Rattle.rows_value.specs.Words.{leaf_value, word_value, pops as Words·pops, result as result_of, code_places, between};
 
 use rows_store::operation::operate;
 use rows_store::shifts::power_of;
@@ -14,7 +16,7 @@ const STACK_PLACES: usize = 32;
 
 // A register, a bit part of one, or a constant.
 fn leaf_value(kind: u16, a: u16, b: u16, c: u16, r: &[u16; MOST_REGISTERS]) -> u16
-    ensures* { λ v. ⌜ v ≡ leaf_value r.now kind a b c ⌝ }
+    ensures { result ≡ leaf_value r.now kind a b c }
 {
     if kind == kinds::CONSTANT {
         return a;
@@ -28,7 +30,7 @@ fn leaf_value(kind: u16, a: u16, b: u16, c: u16, r: &[u16; MOST_REGISTERS]) -> u
 
 // How many values a word takes from the stack.
 fn pops(kind: u16) -> usize
-    ensures* { λ r. ⌜ r ≡ Words·pops kind ⌝ }
+    ensures { result ≡ Words·pops kind }
 {
     if kind < kinds::MEMORY {
         return 0;
@@ -50,8 +52,8 @@ fn word_value(
 ) -> u16
     requires fact_1 { at + 4 ≤ code_places }
     requires fact_2 { length memory.now ≡ memory_words }
-    ensures* { λ v. ⌜ v ≡ word_value (record { registers = r.now; memory = memory.now })
-        (get_or code.now at 0) (get_or code.now (at + 1) 0) (get_or code.now (at + 2) 0) (get_or code.now (at + 3) 0) x y ⌝ }
+    ensures { result ≡ word_value (record { registers = r.now; memory = memory.now })
+        (get_or code.now at 0) (get_or code.now (at + 1) 0) (get_or code.now (at + 2) 0) (get_or code.now (at + 3) 0) x y }
 {
     let kind = code[at];
     if kind < kinds::MEMORY {
@@ -74,7 +76,7 @@ fn value_of(
 ) -> u16
     requires fact_1 { from + 4 * n ≤ code_places }
     requires fact_2 { length memory.now ≡ memory_words }
-    ensures* { λ v. ⌜ v ≡ result (record { registers = r.now; memory = memory.now }) code.now from n ⌝ }
+    ensures { result ≡ result_of (record { registers = r.now; memory = memory.now }) code.now from n }
 {
     let mut stack = [0u16; STACK_PLACES];
     let mut depth = 0;
@@ -106,7 +108,7 @@ pub fn value_between(
     memory: &[u16],
 ) -> u16
     requires { length memory.now ≡ memory_words }
-    ensures* { λ v. ⌜ v ≡ between (record { registers = r.now; memory = memory.now }) code.now from to ⌝ }
+    ensures { result ≡ between (record { registers = r.now; memory = memory.now }) code.now from to }
 {
     if (from <= to) & (to <= CODE_PLACES as u16) {
         value_of(code, from as usize, ((to - from) / 4) as usize, r, memory)

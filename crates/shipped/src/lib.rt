@@ -1,4 +1,6 @@
 // Emulator and evaluator beside each other, on the shipped description of the PDP-8, with devices or without.
+#![tactic(auto)]
+
 ghost use Rattle.std.specs.Prelude.{◌≡◌};
 ghost use Rattle.emulator.specs.Emulate as emulator;
 ghost use Rattle.evaluator.specs.Evaluate as evaluator;
@@ -12,7 +14,7 @@ use machine_state::Machine;
 use rows_store::Registers;
 
 // What the two programs answer.
-#[derive(Drop)]
+#[derive(Clone, Copy)]
 pub struct Both {
     pub emulated: emulator::DeviceAnswer,
     pub evaluated: evaluator::DeviceAnswer,

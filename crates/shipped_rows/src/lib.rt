@@ -1,4 +1,6 @@
 // The shipped descriptions of the PDP-8: without devices here, with them in `twin`.
+#![tactic(auto)]
+
 pub mod twin;
 
 ghost use Rattle.std.specs.Prelude.{◌≡◌};

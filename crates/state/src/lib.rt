@@ -1,5 +1,7 @@
 // What both engines share: the reasons of a run's end, the state refusals 11 to 15, and the checks of memory, registers, budget and
 // row list that give them.
+#![tactic(auto)]
+
 ghost use Rattle.std.specs.Prelude.{ℕ, ◌≤◌, ◌≡◌, get_or};
 ghost use Rattle.word.specs.Word.{widest, fits};
 ghost use Rattle.state.specs.Checks.{first_too_wide, check_memory, check_registers, check_budget, check_state, check_row_list};
@@ -14,7 +16,7 @@ pub const BUDGET_LIMIT: u64 = 1_000_000;
 pub const ROW_PLACES: usize = 128;
 
 // Why a run ended: RUN is 0, or the budget is done, or the output has no place left.
-#[derive(Drop)]
+#[derive(Clone, Copy)]
 pub enum Reason {
     Halted,
     Spent,
@@ -22,7 +24,7 @@ pub enum Reason {
 }
 
 // Why a state is turned down, with the lowest offending place where one applies.
-#[derive(Drop)]
+#[derive(Clone, Copy)]
 pub enum Refusal {
     MemoryLength,
     Word(usize),
@@ -32,7 +34,7 @@ pub enum Refusal {
 }
 
 // What a check finds.
-#[derive(Drop)]
+#[derive(Clone, Copy)]
 pub enum Verdict {
     Fit,
     Unfit(Refusal),

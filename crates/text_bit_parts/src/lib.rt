@@ -1,4 +1,6 @@
 // Names of registers, and bit parts of them.
+#![tactic(auto)]
+
 ghost use Rattle.std.specs.Prelude.{◌≡◌, ◌≤◌};
 ghost use Rattle.text_names.specs.Dictionaries.{entries, places};
 ghost use Rattle.text_bit_parts.specs.References.{second_bit, first_bit, span_at, part_of, register_at, reference_at};
@@ -8,14 +10,14 @@ use text_constants::Number;
 use text_names::Dictionary;
 
 // Bit numbers and the place after them.
-#[derive(Drop)]
+#[derive(Clone, Copy)]
 pub enum Span {
     Bits { first: u16, last: u16, place: usize },
     Bad,
 }
 
 // A register or a bit part of one, and the place after it.
-#[derive(Drop)]
+#[derive(Clone, Copy)]
 pub enum Reference {
     Whole {
         register: u16,

@@ -1,4 +1,6 @@
 // The table of words that stand for an expression, and how far reading has come.
+#![tactic(auto)]
+
 pub mod compounds;
 pub mod kinds;
 pub mod leaves;
@@ -17,7 +19,7 @@ pub const CODE_PLACES: usize = 4 * (ALL_PIECES + LONGEST_LINE);
 pub const WIDEST: u16 = 16;
 
 // Where reading stands: the place in the field, and the words and pieces so far.
-#[derive(Drop)]
+#[derive(Clone, Copy)]
 pub struct Cursor {
     pub place: usize,
     pub words: usize,
@@ -25,7 +27,7 @@ pub struct Cursor {
 }
 
 // A part of an expression that was read, with its width, or a fault.
-#[derive(Drop)]
+#[derive(Clone, Copy)]
 pub enum Part {
     Found(Cursor, u16),
     Fault,

@@ -1,4 +1,6 @@
 // Constants, read straight from the line: binary and octal ones behind their marks, and decimals.
+#![tactic(auto)]
+
 ghost use Rattle.std.specs.Prelude.{◌≡◌, leb, length, ◌+◌, ◌≤◌};
 ghost use Rattle.word.specs.Choice.{pick};
 ghost use Rattle.text_constants.specs.Constants.{number_at, decimal_at, marked_at, shortest, constant_at, of_decimal};
@@ -16,14 +18,14 @@ const DECIMAL_DIGITS: usize = 5;
 const LARGEST: u64 = 32767;
 
 // A decimal and the place after it, or that none is there.
-#[derive(Drop)]
+#[derive(Clone, Copy)]
 pub enum Number {
     Plain { value: u16, place: usize },
     Unread,
 }
 
 // A constant and the place after it, or that none is there.
-#[derive(Drop)]
+#[derive(Clone, Copy)]
 pub enum Constant {
     Found {
         value: u16,

@@ -16,7 +16,7 @@ use text_limits::{MOST_LABELS, MOST_REGISTERS};
 use text_names::Dictionary;
 
 // What was read so far: registers and labels, the rows, words and pieces counted, and the line of the first `go` without its label, 0 if there is none.
-#[derive(Drop)]
+#[derive(Clone, Copy)]
 pub struct Progress {
     pub registers: Dictionary,
     pub labels: Dictionary,
@@ -27,14 +27,14 @@ pub struct Progress {
 }
 
 // Whether reading goes on.
-#[derive(Drop)]
+#[derive(Clone, Copy)]
 pub enum Status {
     Goes,
     Refused(Fault),
 }
 
 // What a line comes to: what was read with it, unless it is refused.
-#[derive(Drop)]
+#[derive(Clone, Copy)]
 pub struct Step {
     pub progress: Progress,
     pub status: Status,

@@ -316,7 +316,7 @@ rows_of (turned_down f n) = []
 pub leaves_is : (text : List ℕ) (x : Acceptance) (r : Findings) {code₀ code₁ table₀ table₁ : List ℕ} → Leaves x text r code₀ code₁ table₀ table₁
     → x ≡ judged r.verdict (record { registers = entries text r.registers; rows = rows_of x })
 leaves_is text (accepted d) r l =
-    ap (λ (rs : List Named). accepted (record { registers = rs; rows = d.rows })) (sym (l.accepts d refl).registers-are)
+    ap (λ (rs : List Named). accepted (record { registers = rs; rows = d.rows })) (sym (l.accepts d refl).registers_are_lem)
     ∙ ap (λ (v : Verdict). judged v (record { registers = entries text r.registers; rows = d.rows })) (sym (l.accepts d refl).verdict_is)
 leaves_is text (turned_down f n) r l =
     ap (λ (z : Findings). judged z.verdict (record { registers = entries text r.registers; rows = [] })) (sym (l.empties f n refl).is)

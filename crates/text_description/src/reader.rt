@@ -17,7 +17,7 @@ use text_limits::MOST_BYTES;
 use text_names::Dictionary;
 
 // What a text comes to.
-#[derive(Drop)]
+#[derive(Clone, Copy)]
 pub enum Verdict {
     Accepted,
     // what for, and the line
@@ -25,7 +25,7 @@ pub enum Verdict {
 }
 
 // The verdict, and of an accepted text the registers, with their widths, and the number of rows.
-#[derive(Drop)]
+#[derive(Clone, Copy)]
 pub struct Findings {
     pub registers: Dictionary,
     pub rows: usize,

@@ -1,4 +1,6 @@
 // Whole fields: an expression, and a destination.
+#![tactic(auto)]
+
 ghost use Rattle.std.specs.Prelude.{◌≡◌, ◌+◌, ◌≤◌, length};
 ghost use Rattle.word.specs.Word.{widest};
 ghost use Rattle.text_names.specs.Dictionaries.{entries, places};
@@ -17,7 +19,7 @@ use text_operators::OR;
 const MOST_PIECES: usize = 32;
 
 // Where a value goes: a register, a bit part of one, or the memory word whose address was read.
-#[derive(Drop)]
+#[derive(Clone, Copy)]
 pub enum Place {
     Register {
         register: u16,

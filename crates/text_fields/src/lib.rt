@@ -1,4 +1,6 @@
 // Lines and fields, each a part of the caller's text.
+#![tactic(auto)]
+
 ghost use Rattle.std.specs.Prelude.{◌≡◌};
 ghost use Rattle.text_fields.specs.Fields.{before, after, field, has_fields};
 

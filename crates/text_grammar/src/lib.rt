@@ -1,4 +1,6 @@
 // The grammar by strengths: level, operation, operand and bracketed part call each other while the unread length falls.
+#![tactic(auto)]
+
 ghost use Rattle.std.specs.Prelude.{◌≡◌, true, ◌+◌, ◌-◌, ◌≤◌, ◌<◌, get_or};
 ghost use Rattle.characters.specs.Characters.{is_letter};
 ghost use Rattle.word.specs.Word.{widest};
@@ -19,7 +21,7 @@ use text_operators::{NOT, OR, SLR};
 const DEEPEST: usize = 8;
 
 // An expression of a strength, from the cursor on.
-#[cycle(read_enclosed_read_level_read_more_read_negated_read_operand_read_operation_read_worded)]
+#[cycle(grammar)]
 pub fn read_level(
     text: &[u8],
     d: Dictionary,
@@ -45,7 +47,7 @@ pub fn read_level(
 }
 
 // The operators of a strength behind a left side, with their right sides.
-#[cycle(read_enclosed_read_level_read_more_read_negated_read_operand_read_operation_read_worded)]
+#[cycle(grammar)]
 fn read_more(
     text: &[u8],
     d: Dictionary,
@@ -72,7 +74,7 @@ fn read_more(
 }
 
 // The one operator behind a left side, with its right side.
-#[cycle(read_enclosed_read_level_read_more_read_negated_read_operand_read_operation_read_worded)]
+#[cycle(grammar)]
 fn read_operation(
     text: &[u8],
     d: Dictionary,
@@ -106,7 +108,7 @@ fn read_operation(
 }
 
 // The operand at the cursor.
-#[cycle(read_enclosed_read_level_read_more_read_negated_read_operand_read_operation_read_worded)]
+#[cycle(grammar)]
 fn read_operand(
     text: &[u8],
     d: Dictionary,
@@ -143,7 +145,7 @@ fn read_operand(
 }
 
 // The operand that begins with a letter, at the cursor.
-#[cycle(read_enclosed_read_level_read_more_read_negated_read_operand_read_operation_read_worded)]
+#[cycle(grammar)]
 fn read_worded(
     text: &[u8],
     d: Dictionary,
@@ -184,7 +186,7 @@ fn read_worded(
 }
 
 // What a Not stands before.
-#[cycle(read_enclosed_read_level_read_more_read_negated_read_operand_read_operation_read_worded)]
+#[cycle(grammar)]
 fn read_negated(
     text: &[u8],
     d: Dictionary,
@@ -210,7 +212,7 @@ fn read_negated(
 }
 
 // The bracketed part behind an open bracket.
-#[cycle(read_enclosed_read_level_read_more_read_negated_read_operand_read_operation_read_worded)]
+#[cycle(grammar)]
 fn read_enclosed(
     text: &[u8],
     d: Dictionary,

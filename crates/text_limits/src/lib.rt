@@ -1,4 +1,6 @@
 // The six limits of a description's text: "16,384 bytes, 200 bytes, .. 128 rows, 32 labels, 1,024 pieces pass", and "the register set grows to 32 places".
+#![tactic(auto)]
+
 pub const MOST_BYTES: usize = 16384;
 
 pub const LONGEST_LINE: usize = 200;

@@ -1,4 +1,6 @@
 // Names, and dictionaries of names that stand in a text.
+#![tactic(auto)]
+
 ghost use Rattle.std.specs.Prelude.{◌≡◌, get_or, ◌+◌, ◌<◌};
 ghost use Rattle.characters.specs.Named.{find};
 ghost use Rattle.text_names.specs.Dictionaries.{places, entries, none, Added};
@@ -13,7 +15,7 @@ const LONGEST_NAME: usize = 20;
 pub const PLACES: usize = 32;
 
 // The places of names in a text, with a number for each.
-#[derive(Drop)]
+#[derive(Clone, Copy)]
 pub struct Dictionary {
     pub count: usize,
     pub starts: [u16; PLACES],

@@ -1,4 +1,6 @@
 // The operators and their one table.
+#![tactic(auto)]
+
 pub mod names;
 
 ghost use Rattle.std.specs.Prelude.{◌≡◌, ◌≤◌, max};
@@ -6,7 +8,7 @@ ghost use Rattle.word.specs.Word.{widest};
 ghost use Rattle.text_operators.specs.Operators.{entry_in, width_by};
 
 // The ten operators, strongest first.
-#[derive(Drop)]
+#[derive(Clone, Copy)]
 pub enum Operator {
     Not,
     Join,
@@ -21,7 +23,7 @@ pub enum Operator {
 }
 
 // How the width of an operator's value follows from its sides'.
-#[derive(Drop)]
+#[derive(Clone, Copy)]
 pub enum Widths {
     Left,
     Sum,
@@ -32,7 +34,7 @@ pub enum Widths {
 }
 
 // A row of the table.
-#[derive(Drop)]
+#[derive(Clone, Copy)]
 pub struct Entry {
     pub operator: Operator,
     pub strength: u8,

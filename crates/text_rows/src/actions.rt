@@ -78,7 +78,7 @@ fn read_aim(
 }
 
 // A row that was read: its cells, and how far its words and pieces reach.
-#[derive(Drop)]
+#[derive(Clone, Copy)]
 pub struct RowRead {
     pub cells: [u16; ROW_CELLS],
     pub end: Cursor,

@@ -10,7 +10,7 @@ use text_code::row_table::{ROW_CELLS, TABLE_CELLS};
 use text_code::{Cursor, row_table};
 
 // Where a row's value goes: the cells of its destination, and how far its address reaches.
-#[derive(Drop)]
+#[derive(Clone, Copy)]
 pub struct Aim {
     pub kind: u16,
     pub register: u16,

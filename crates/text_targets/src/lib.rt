@@ -1,4 +1,6 @@
 // Which lines are rows, and where a `go` leads.
+#![tactic(auto)]
+
 ghost use Rattle.std.specs.Prelude.{◌≡◌, ◌≤◌, length};
 ghost use Rattle.text_fields.specs.Fields.{lines};
 ghost use Rattle.text_limits.specs.Limits.{most_bytes};
@@ -7,7 +9,7 @@ ghost use Rattle.text_targets.specs.Targets.{is_at, is_row, passes as Targets·p
 use characters::LINE_FEED;
 
 // The rows that a `go` passes over, or that its label isn't lower down.
-#[derive(Drop)]
+#[derive(Clone, Copy)]
 pub enum Target {
     Passes(u16),
     Missing,

@@ -1,4 +1,6 @@
 // Tokens of an expression: where the next one stands and ends, and the operator that it names.
+#![tactic(auto)]
+
 ghost use Rattle.std.specs.Prelude.{◌≡◌, ◌≤◌, length};
 ghost use Rattle.text_tokens.specs.Tokens.{skip, token_end, operator_at, after_token};
 

@@ -1,4 +1,6 @@
 // Words of 1 to 16 bits, held in u64 numbers.
+#![tactic(auto)]
+
 ghost use Rattle.std.specs.Prelude.{◌≡◌, ◌^◌, ◌≤◌};
 ghost use Rattle.word.specs.Word.{widest, fits, next};
 

@@ -1,0 +1,10 @@
+-- `machine_operate::accumulator::clear`: the code's test is the definition's.
+use borrow.Author.Tests.{eq-eqb, ne_eqb}
+use Rattle.machine_state.proofs.Lac.{ac_cleared}
+use Rattle.machine_operate.proofs.accumulator.clear.Goals as goal
+
+pub returns-then-i-ne0 : goal.returns-then-i-ne0
+returns-then-i-ne0 c = simp (ne_eqb _ _ c.if-i-ne0.true) (ac_cleared c.args.lac)
+
+pub returns-else-i-ne0 : goal.returns-else-i-ne0
+returns-else-i-ne0 c = simp (eq-eqb _ _ c.if-i-ne0.false)

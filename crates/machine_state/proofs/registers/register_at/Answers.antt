@@ -1,0 +1,34 @@
+-- `machine_state::registers::register_at`: the constant table is the definition's.
+use native.Mathlib.Omega.{arith}
+use mathlib.Core.Path.{sym, ap, ◌∙◌}
+use mathlib.Core.List.{List, [], ◌∷◌}
+use lib.ListN.{get_or-map}
+use Rattle.laws.proofs.Lists.{any_default}
+use Rattle.characters.specs.Ascii.{ascii}
+use Rattle.machine_state.specs.Table.{named}
+use Rattle.machine_state.specs.declared.registers.Register.{Register}
+use Rattle.machine_state.proofs.registers.register_at.Goals as goal
+
+-- the constant table, each name with spaces up to 20 bytes
+abbrev table : List Register
+table =
+    record { width = 13; size = 3; letters = ascii "LAC                 " }
+    ∷ record { width = 12; size = 2; letters = ascii "PC                  " }
+    ∷ record { width = 1; size = 3; letters = ascii "RUN                 " }
+    ∷ record { width = 1; size = 16; letters = ascii "INTERRUPT.ENABLE    " }
+    ∷ record { width = 1; size = 17; letters = ascii "INTERRUPT.REQUEST   " }
+    ∷ record { width = 12; size = 8; letters = ascii "SWITCHES            " }
+    ∷ []
+
+-- past its end
+abbrev none : Register
+none = record { width = 0; size = 0; letters = [] }
+
+pub offset_bounds-place : goal.offset_bounds-place
+offset_bounds-place c = omega (arith, c.requires)
+
+pub bounds-place-place : goal.bounds-place-place
+bounds-place-place c = omega (arith, c.requires)
+
+pub returns : goal.returns
+returns c = ap named (any_default table c.args.place _ none c.requires) ∙ sym (get_or-map named table c.args.place none)

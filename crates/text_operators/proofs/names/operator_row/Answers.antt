@@ -1,0 +1,48 @@
+-- `text_operators::names::operator_row`: name by name.
+use mathlib.Core.Path.{◌≡◌, sym, ◌∙◌}
+use Prim.Native.Nat.{ℕ, suc, ◌+◌}
+use native.Mathlib.Omega.{arith}
+use Rattle.text_operators.specs.OperatorNames.{find_in, operator_row}
+use Rattle.text_operators.proofs.names.operator_row.Goals as goal
+
+joined : (x : ℕ) → 4 + x ≡ suc (suc (suc (suc x)))
+joined x = omega arith
+
+pub returns-then-is_same : goal.returns-then-is_same
+unfolding operator_row find_in
+returns-then-is_same c = rw (sym c.is_same.ensures ∙ c.if-is_same.true, find_in)
+
+pub returns-then-is_same-2 : goal.returns-then-is_same-2
+unfolding operator_row find_in
+returns-then-is_same-2 c = rw (sym c.is_same.ensures ∙ c.if-is_same.false, sym c.is_same-2.ensures ∙ c.if-is_same-2.true, find_in)
+
+pub returns-then-is_same-3 : goal.returns-then-is_same-3
+unfolding operator_row find_in
+returns-then-is_same-3 c = rw (
+  sym c.is_same.ensures ∙ c.if-is_same.false,
+  sym c.is_same-2.ensures ∙ c.if-is_same-2.false,
+  sym c.is_same-3.ensures ∙ c.if-is_same-3.true,
+  find_in,
+)
+
+pub returns-then-is_same-4 : goal.returns-then-is_same-4
+unfolding operator_row find_in
+returns-then-is_same-4 c = rw (
+  sym c.is_same.ensures ∙ c.if-is_same.false,
+  sym c.is_same-2.ensures ∙ c.if-is_same-2.false,
+  sym c.is_same-3.ensures ∙ c.if-is_same-3.false,
+  sym c.is_same-4.ensures ∙ c.if-is_same-4.true,
+  find_in,
+)
+
+pub returns : goal.returns
+unfolding operator_row find_in
+returns c = rw (
+  c.row_from_4.ensures,
+  sym c.is_same.ensures ∙ c.if-is_same.false,
+  sym c.is_same-2.ensures ∙ c.if-is_same-2.false,
+  sym c.is_same-3.ensures ∙ c.if-is_same-3.false,
+  sym c.is_same-4.ensures ∙ c.if-is_same-4.false,
+  find_in,
+)
+    (joined _)

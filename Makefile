@@ -1,6 +1,6 @@
 # Proves and builds the static library and the programs, and installs them. Needs the Rattle kit (command rt); README.md, "Install it".
 #   make                  target/staticlib/libguavachisel.a, target/bin/listing, target/bin/explain, target/bin/teletype
-#   make check            the gate: everything proved from nothing, and every test
+#   make check            the gate: everything proved, and every test
 #   make install          below PREFIX, in the folder DESTDIR if one is said
 #   make uninstall        takes away what install put there
 PREFIX = /usr/local
@@ -8,7 +8,7 @@ DESTDIR =
 
 library = target/staticlib/libguavachisel.a
 programs = target/bin/listing target/bin/explain target/bin/teletype
-sources := crates.txt $(shell find crates -name must-fail -prune -o -type f -print)
+sources := crates.txt $(shell find crates -name must-fail -prune -o -name out -prune -o -type f -print)
 
 bin = $(DESTDIR)$(PREFIX)/bin
 include = $(DESTDIR)$(PREFIX)/include
@@ -19,13 +19,14 @@ version = $(shell sed -n 's/^.define GUAVACHISEL_VERSION //p' include/guavachise
 
 all: $(library) $(programs)
 
-# rt proves what has changed since it was last proved, and leaves a program that is made of the same sources as it is: hence the touch.
-$(programs) &: $(sources)
-	rt check listing explain teletype
-	touch $(programs)
+# What is made of the same sources is left as it is: hence the touch.
+$(programs): $(sources)
+	programs/prove $(notdir $@)
+	touch $@
 
 $(library): $(sources)
-	rt staticlib guavachisel
+	programs/prove guavachisel
+	touch $@
 
 check:
 	.ci/run

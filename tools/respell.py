@@ -6,7 +6,7 @@ usage: tools/respell.py [--dry] [FOLDER]      (the repository's top, else this o
 A name in camel case, as `lacBits`, becomes `lac_bits`. A dash between plain words becomes an underscore, as in `runs_agree`; it stays between the names of list and
 number functions, as in `sets-append`, and behind a type's name, as in `Is-missing`. What the prover makes of a function's goals (`proofs/FUNCTION/`) keeps its name. Words
 of code, clauses and must-fail edits turn, and those of comments and pages where they stand in back quotes or have a capital in the middle. `--dry` writes nothing and
-prints the table and the names that would fall together.
+prints the table and the names that would fall together. It is run once: where it has run it would turn the names that end in `_lem` again.
 """
 
 import collections
@@ -190,4 +190,5 @@ def main(argv):
                 f.write(new)
 
 
-main(sys.argv[1:])
+if __name__ == "__main__":
+    main(sys.argv[1:])

@@ -47,6 +47,7 @@ pub fn ended(written: Result<()>) -> ExitCode
     ensures written { OnOk written (exit_status result ≡ 0) }
     ensures left { IfErr written (λ e. error_kind e ≡ ErrorKind.BrokenPipe → exit_status result ≡ READER_LEFT) }
     ensures failed { IfErr written (λ e. error_kind e ≢ ErrorKind.BrokenPipe → exit_status result ≡ 0) }
+    ensures either { exit_status result ≢ 0 → exit_status result ≡ READER_LEFT }
 {
     match written {
         Err(e) if e.kind() == ErrorKind::BrokenPipe => ExitCode::from(READER_LEFT),
@@ -56,7 +57,8 @@ pub fn ended(written: Result<()>) -> ExitCode
 
 // Tells what failed and why, in one line, and answers the status. Where a reader has left nothing is told.
 pub fn fail<P: Print>(told: &P, alloc: Global, what: &str, error: Error) -> ExitCode
-    ensures { error_kind error ≡ ErrorKind.BrokenPipe → exit_status result ≡ READER_LEFT }
+    ensures left { error_kind error ≡ ErrorKind.BrokenPipe → exit_status result ≡ READER_LEFT }
+    ensures either { exit_status result ≢ 0 → exit_status result ≡ READER_LEFT }
 {
     if error.kind() == ErrorKind::BrokenPipe {
         return ExitCode::from(READER_LEFT);

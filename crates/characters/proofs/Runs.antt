@@ -1,6 +1,6 @@
 -- The laws of runs: where a run ends, by what stands at its start, and where it lies.
 -- Assumes nothing.
-use mathlib.Core.Path.{◌≡◌}
+use mathlib.Core.Path.{◌≡◌, refl, ◌∙◌}
 use mathlib.Core.Bool.{true, false}
 use mathlib.Core.List.{List, [], ◌∷◌}
 use Prim.Native.Nat.{ℕ, suc, ◌+◌, ◌≤◌, ◌<◌}
@@ -11,6 +11,8 @@ use lib.Dec.{ltb}
 use borrow.Author.Tests.{ltb-true, ltb-false}
 use lib.ListN.{length, get_or, drop, length-drop, drop_of_length-le}
 use lib.Seq.{drop-cons}
+use Rattle.std.specs.List.{prefix_len, take_while}
+use Rattle.std.proofs.lemmas.List.Folds.{length-prefix_len}
 use Rattle.characters.specs.Characters.{belongs, run, run_end}
 use Rattle.laws.proofs.Tests.{by_test}
 use Rattle.characters.specs.declared.Class.{Class}
@@ -23,6 +25,18 @@ run_more k b s e = rw (e, run)
 pub run_none : (k : Class) (b : ℕ) (s : List ℕ) → belongs k b ≡ false → run k (b ∷ s) ≡ 0
 unfolding run
 run_none k b s e = rw (e, run)
+
+-- the library's longest prefix of bytes of a class
+pub run_prefix : (k : Class) (s : List ℕ) → prefix_len (belongs k) s ≡ run k s
+unfolding run
+run_prefix k [] = refl
+run_prefix k (b ∷ s) =
+    by_test (belongs k b)
+    (λ e. rw (e, run_prefix k s, run_more k b s e) (omega arith))
+    (λ e. rw (e, run_none k b s e))
+
+pub run_length : (k : Class) (s : List ℕ) → length (take_while (belongs k) s) ≡ run k s
+run_length k s = length-prefix_len (belongs k) s ∙ run_prefix k s
 
 pub run_le : (k : Class) (s : List ℕ) → run k s ≤ length s
 unfolding run

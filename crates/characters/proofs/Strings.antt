@@ -1,29 +1,25 @@
 -- The laws of byte strings: two are compared place by place, and a part of a part is a part.
 -- Assumes nothing.
 use mathlib.Core.Path.{◌≡◌, refl, ap, ◌∙◌}
-use mathlib.Core.Bool.{Bool, true, false, false≢true, ◌&&◌}
+use mathlib.Core.Bool.{Bool, true, false≢true, ◌&&◌}
 use mathlib.Core.List.{List, [], ◌∷◌}
-use Prim.Native.Nat.{ℕ, zero, suc, ◌+◌, ◌≤◌, ◌<◌}
-use native.Mathlib.Numerals.{add-one}
+use Prim.Native.Nat.{ℕ, zero, suc, ◌+◌, ◌≤◌}
 use native.Mathlib.Omega.{arith}
 use lib.Dec.{eqb}
 use borrow.Author.Tests.{eqb-true}
-use lib.ListN.{length, get_or, take, drop, drop_of_length-le}
-use lib.Seq.{drop-cons, take-nil, take-take}
+use lib.ListN.{take, drop}
+use lib.Seq.{take-nil, take-take}
+use Rattle.std.specs.Str.{bytes_eq}
 use Rattle.characters.specs.Characters.{same}
 use Rattle.laws.proofs.Joined.{and_left, and_right}
 
--- strings of unequal lengths
-pub unequal : (a b : List ℕ) → (length a ≡ length b → ⊥) → same a b ≡ false
+-- the library's equality of byte strings is the definition's
+pub same_bytes : (a b : List ℕ) → bytes_eq a b ≡ same a b
 unfolding same
-unequal [] [] h = absurd (h refl)
-unequal [] (y ∷ b) h = refl
-unequal (x ∷ a) [] h = refl
-unequal (x ∷ a) (y ∷ b) h = rw (unequal a b (λ e. h (ap suc e))) (both (eqb x y))
-  where
-    both : (t : Bool) → t && false ≡ false
-    both true = refl
-    both false = refl
+same_bytes [] [] = refl
+same_bytes [] (y ∷ b) = refl
+same_bytes (x ∷ a) [] = refl
+same_bytes (x ∷ a) (y ∷ b) = ap (λ (t : Bool). eqb x y && t) (same_bytes a b)
 
 -- strings that are the same are equal
 pub equal : (a b : List ℕ) → same a b ≡ true → a ≡ b
@@ -33,16 +29,6 @@ equal [] (y ∷ b) e = absurd (false≢true e)
 equal (x ∷ a) [] e = absurd (false≢true e)
 equal (x ∷ a) (y ∷ b) e =
     ap (λ (k : ℕ). k ∷ a) (eqb-true x y (and_left (eqb x y) (same a b) e)) ∙ ap (λ (l : List ℕ). y ∷ l) (equal a b (and_right (eqb x y) (same a b) e))
-
-module _ (a b : List ℕ) (i : ℕ) where
-  -- from a place within both, and past their end
-  pub compared : i < length a → i < length b → same (drop i a) (drop i b) ≡ eqb (get_or a i 0) (get_or b i 0) && same (drop (i + 1) a) (drop (i + 1) b)
-  unfolding same
-  compared p q = rw (drop-cons a i 0 p, drop-cons b i 0 q, add-one i)
-
-  pub equal_ends : length a ≤ i → length b ≤ i → same (drop i a) (drop i b) ≡ true
-  unfolding same
-  equal_ends p q = rw (drop_of_length-le a p, drop_of_length-le b q)
 
 -- a part within a part
 pub inner : (s : List ℕ) (n k m : ℕ) → k + n ≤ m → take n (drop k (take m s)) ≡ take n (drop k s)

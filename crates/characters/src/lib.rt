@@ -1,7 +1,10 @@
-// Characters, runs of characters of one class, and byte strings.
+// Characters, runs of characters of one class, byte strings, and tables of registers.
 #![tactic(auto)]
 
-ghost use Rattle.std.specs.Prelude.{◌≡◌, get_or, take, drop, ◌+◌};
+pub mod registers;
+
+ghost use Rattle.std.specs.Prelude.{◌≡◌, length, get_or, take, drop, ◌+◌};
+ghost use Rattle.std.specs.List.{take_while};
 ghost use Rattle.characters.specs.Characters.{is_digit, is_letter, belongs, run_end, same};
 
 pub const TAB: u8 = b'\t';
@@ -9,7 +12,7 @@ pub const TAB: u8 = b'\t';
 pub const LINE_FEED: u8 = b'\n';
 
 // What a run consists of.
-#[derive(Clone, Copy)]
+#[derive(Clone, Copy, PartialEq, Eq)]
 pub enum Class {
     Space,
     // "letters, digits or dots"
@@ -26,13 +29,13 @@ pub enum Class {
 pub fn is_digit(b: u8) -> bool
     ensures { result ≡ is_digit b }
 {
-    (b'0' <= b) & (b <= b'9')
+    b.is_ascii_digit()
 }
 
 pub fn is_letter(b: u8) -> bool
     ensures { result ≡ is_letter b }
 {
-    ((b'A' <= b) & (b <= b'Z')) | ((b'a' <= b) & (b <= b'z'))
+    b.is_ascii_alphabetic()
 }
 
 // Whether the byte is of the class.
@@ -54,51 +57,41 @@ pub fn is_of(class: Class, b: u8) -> bool
 pub fn byte(s: &[u8], at: usize) -> u8
     ensures { result ≡ get_or s.now at 0 }
 {
-    if at < s.len() { s[at] } else { 0 }
+    s.get(at).copied().unwrap_or(0)
+}
+
+// What stands from a place on, nothing past the end.
+fn rest(s: &[u8], at: usize) -> &[u8]
+    ensures { result.now ≡ drop at s.now }
+{
+    &s[at.min(s.len())..]
+}
+
+// How many bytes of a class a text begins with.
+fn run(class: Class, s: &[u8]) -> usize
+    ensures { result ≡ length (take_while (belongs class) s.now) }
+{
+    s.iter().take_while(|b| is_of(class, **b)).count()
 }
 
 // The place after the run of a class that starts at a place.
 pub fn run_end(s: &[u8], at: usize, class: Class) -> usize
     ensures { result ≡ run_end class s.now at }
 {
-    let mut i = at;
-    while i < s.len() {
-        if is_of(class, s[i]) {
-            i += 1;
-        } else {
-            return i;
-        }
-    }
-    i
+    at + run(class, rest(s, at))
 }
 
 // Whether two byte strings are the same.
 pub fn is_same(a: &[u8], b: &[u8]) -> bool
     ensures { result ≡ same a.now b.now }
 {
-    if a.len() != b.len() {
-        return false;
-    }
-    let mut i = 0;
-    while i < a.len() {
-        if a[i] != b[i] {
-            return false;
-        }
-        i += 1;
-    }
-    true
+    a == b
 }
 
 // n bytes from a place, or as many as there are.
 pub fn part(s: &[u8], at: usize, n: usize) -> &[u8]
     ensures { result.now ≡ take n (drop at s.now) }
 {
-    if s.len() <= at {
-        return &s[s.len()..];
-    }
-    if s.len() - at <= n {
-        &s[at..]
-    } else {
-        &s[at..at + n]
-    }
+    let rest = rest(s, at);
+    &rest[..n.min(rest.len())]
 }

@@ -10,9 +10,9 @@ use lib.ListN.{get_or, get_or-map}
 use borrow.Author.Tests.{leb-true}
 use Rattle.laws.proofs.Joined.{and_left, and_right}
 use Rattle.characters.specs.Named.{Named}
-use Rattle.machine_state.specs.declared.registers.Register.{Register}
+use Rattle.characters.specs.declared.registers.Register.{Register}
 use Rattle.machine_state.specs.State.{lac_bits}
-use Rattle.machine_state.specs.Table.{named, nameless}
+use Rattle.characters.specs.Table.{named, nameless}
 use Rattle.desk_registers.specs.Registers.{desk_registers, desk_widths}
 
 -- whether no width of a list is above n

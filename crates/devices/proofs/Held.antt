@@ -18,7 +18,7 @@ use Rattle.devices.specs.declared.Devices.{Devices}
 use Rattle.devices.specs.Devices.{received, arrived, unread_after, risen, begun, written}
 use Rattle.devices.specs.Session.{Exchange, exchanged}
 use Rattle.devices.specs.Held.{BegunBy, PrintedBy, session}
-use Rattle.devices.proofs.Starts.{with_key, with_printer}
+use Rattle.devices.proofs.Starts.{with_key}
 
 -- ---- input: `read` bytes of it have arrived
 
@@ -63,15 +63,6 @@ read_within c input read h =
     (by_case (λ (n : ℕ). n ≤ length input) (ltb read (length input)) (λ t. omega (arith, ltb-true read (length input) t)) (λ t. h))
 
 -- ---- the start, as the code makes it
-
-pub rise_is : (c : Devices) (a b : ℕ) → a ≡ pick (on c.mark) 1 c.printer → b ≡ pick (on c.mark) 0 c.mark → with_printer a b c ≡ risen c
-unfolding risen
-rise_is c a b e f =
-    ap (λ (x : ℕ). with_printer x b c) e ∙ ap (λ (x : ℕ). with_printer (pick (on c.mark) 1 c.printer) x c) f ∙ go (on c.mark)
-  where
-    go : (t : Bool) → with_printer (pick t 1 c.printer) (pick t 0 c.mark) c ≡ pick t (with_printer 1 0 c) c
-    go true = refl
-    go false = refl
 
 -- a byte arrives
 pub begun_new : (c d : Devices) (input : List ℕ) (read : ℕ) → eqb c.keyboard 0 && ltb read (length input) ≡ true

@@ -7,7 +7,6 @@ use Prim.Native.Nat.{ℕ, ◌-◌}
 use native.Mathlib.Omega.{arith}
 use lib.Dec.{ltb}
 use lib.ListN.{length}
-use Rattle.runs.specs.Run.{Ended}
 use Rattle.runs.proofs.Alike.{Alike}
 use Rattle.runs.proofs.Alike as runs
 use Rattle.devices.specs.declared.Devices.{Devices}

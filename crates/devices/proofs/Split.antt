@@ -11,8 +11,7 @@ use lib.Seq.{drop-drop}
 use borrow.Author.Tests.{ltb-true, ltb-false, lt-ltb, le-ltb}
 use Rattle.laws.proofs.Tests.{by_test}
 use Rattle.word.specs.Choice.{on, pick}
-use Rattle.runs.specs.Run.{Ended, ended}
-use Rattle.runs.specs.Run as runs
+use Rattle.runs.specs.Run.{ended}
 use Rattle.runs.proofs.Runs as runs-laws
 use Rattle.runs.proofs.Runs.{following}
 use Rattle.runs.proofs.Alike.{runs_alike}

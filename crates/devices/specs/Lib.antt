@@ -1,4 +1,3 @@
 pub mod Devices
 pub mod Session
 pub mod Held
-pub mod Table

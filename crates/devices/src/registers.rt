@@ -1,68 +1,61 @@
 // The devices' registers as one table, their widths, and their values in document 02's order.
 ghost use Rattle.std.specs.Prelude.{◌≡◌, ◌<◌, length, get_or};
+ghost use Rattle.characters.specs.Named.{found};
+ghost use Rattle.characters.specs.Table.{named, nameless};
 ghost use Rattle.devices.specs.Devices.{device_registers, device_widths, device_values};
-ghost use Rattle.devices.specs.Table.{named, nameless};
 
 use crate::Devices;
+use characters::registers::{Register, place_in};
 
 // The registers that the devices have.
 pub const DEVICE_REGISTERS: usize = 5;
 
 const BYTE_BITS: u64 = 8;
 
-// The most bytes of their names.
-const NAME_BYTES: usize = 13;
-
-// A register: its bits, and its name, so many first bytes of the letters.
-#[derive(Clone, Copy)]
-pub struct DeviceRegister {
-    pub width: u16,
-    pub size: usize,
-    pub letters: [u8; NAME_BYTES],
-}
-
 // The registers, in document 02's order.
-const TABLE: [DeviceRegister; DEVICE_REGISTERS] = [
-    DeviceRegister {
-        width: 8,
-        size: 8,
-        letters: *b"KEY.BYTE     ",
+const TABLE: [Register; DEVICE_REGISTERS] = [
+    Register {
+        name: b"KEY.BYTE",
+        width: BYTE_BITS,
     },
-    DeviceRegister {
+    Register {
+        name: b"KEYBOARD.FLAG",
         width: 1,
-        size: 13,
-        letters: *b"KEYBOARD.FLAG",
     },
-    DeviceRegister {
+    Register {
+        name: b"PRINTER.FLAG",
         width: 1,
-        size: 12,
-        letters: *b"PRINTER.FLAG ",
     },
-    DeviceRegister {
-        width: 8,
-        size: 10,
-        letters: *b"PRINT.BYTE   ",
+    Register {
+        name: b"PRINT.BYTE",
+        width: BYTE_BITS,
     },
-    DeviceRegister {
+    Register {
+        name: b"PRINT.MARK",
         width: 1,
-        size: 10,
-        letters: *b"PRINT.MARK   ",
     },
 ];
 
 // The register at a place of their order.
-pub fn register_at(place: usize) -> DeviceRegister
+pub fn register_at(place: usize) -> Register
     requires { place < length device_registers }
     ensures { named result ≡ get_or device_registers place nameless }
 {
     TABLE[place]
 }
 
+// The place of a register in their order, by its name.
+pub fn place_of(name: &[u8]) -> Option<usize>
+    ensures { result ≡ found name.now device_registers }
+{
+    place_in(&TABLE, name)
+}
+
 // The widths of the registers.
 pub fn widths() -> [u64; DEVICE_REGISTERS]
     ensures { result ≡ device_widths }
 {
-    [BYTE_BITS, 1, 1, BYTE_BITS, 1]
+    TABLE.map(|register| register.width)
 }
 
 // The values of the registers, in their order.

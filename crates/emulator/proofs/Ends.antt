@@ -2,7 +2,7 @@
 -- Assumes nothing.
 use mathlib.Core.Path.{◌≡◌, sym, ap, ap₂, ◌∙◌, subst}
 use mathlib.Core.List.{List}
-use Prim.Native.Nat.{ℕ, ◌≤◌}
+use Prim.Native.Nat.{ℕ}
 use native.Mathlib.Omega.{arith}
 use lib.Dec.{ltb}
 use lib.ListN.{length, take}
@@ -13,10 +13,10 @@ use Rattle.runs.specs.Run.{Ended}
 use Rattle.devices.specs.declared.Devices.{Devices}
 use Rattle.devices.specs.Devices.{DevicesFit}
 use Rattle.devices.specs.Session.{Session, Exchange, opened}
-use Rattle.devices.specs.Held.{Bytes, session}
+use Rattle.devices.specs.Held.{Bytes}
 use Rattle.devices.proofs.Held.{exchange_is}
 use Rattle.machine_state.specs.declared.Machine.{Machine}
-use Rattle.machine_state.specs.State.{State, Good, start}
+use Rattle.machine_state.specs.State.{State, Good}
 use Rattle.machine_state.specs.Processor.{narrowed, at, Narrow}
 use Rattle.machine_state.proofs.Keeps.{good_narrow}
 use Rattle.machine_console.specs.declared.run.SessionEnd.{SessionEnd}
@@ -24,7 +24,7 @@ use Rattle.machine_console.specs.Console.{Console, console, run}
 use Rattle.machine_console.specs.Ran.{Ran}
 use Rattle.machine_console.proofs.Keeps.{run_fits}
 use Rattle.emulator.specs.Emulate.{Report, DeviceReport, device_report, finished_devices, ran}
-use Rattle.emulator.specs.declared.Answer.TheVariants.{Ran as RanTo}
+use Rattle.std.specs.Prelude.{Ok}
 
 module _ {s : State} {c : Devices} {budget : ℕ} {input output memory after : List ℕ} {r : SessionEnd} (k : Ran s c budget input output memory after r) where
   -- the registers fit, so that they can be handed back
@@ -38,7 +38,7 @@ module _ {s : State} {c : Devices} {budget : ℕ} {input output memory after : L
   front = length-take-le r.printed after (omega (arith, k.printed, k.size))
 
   pub end_told : (m machine : Machine) (reason : Reason) → machine ≡ narrowed r.processor → reason ≡ reason_with r.processor.run (ltb r.printed (length after))
-      → device_report m (record { answer = RanTo machine reason r.steps; devices = r.devices; read = r.read; printed = r.printed }) memory after
+      → device_report m (record { answer = Ok (record { machine = machine; reason = reason; steps = r.steps }); devices = r.devices; read = r.read; printed = r.printed }) memory after
       ≡ finished_devices input output (run (length output) budget (opened (console s c) input))
   end_told m machine reason e q =
       let place : reason_with r.processor.run (ltb r.printed (length after)) ≡ reason_with r.processor.run (ltb (length (take r.printed after)) (length output)) =

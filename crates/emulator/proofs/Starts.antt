@@ -13,7 +13,7 @@ use Rattle.word.specs.Word.{widest}
 use Rattle.state.specs.Limits.{budget_limit}
 use Rattle.state.specs.Checks.{check_state}
 use Rattle.state.specs.Acceptable.{Fitting}
-use Rattle.state.specs.declared.Verdict.TheVariants.{Fit}
+use Rattle.std.specs.Prelude.{Ok}
 use Rattle.state.proofs.Accepted.{state_sound, sound_state}
 use Rattle.machine_state.specs.declared.Machine.{Machine}
 use Rattle.machine_state.specs.State.{start, Good}
@@ -43,7 +43,7 @@ all_widths_small = narrow_at (widths ++ device_widths) refl
 -- ---- what passes is good, and what is good passes
 
 -- what passes the checks is a good state
-pub checked_good : (m : Machine) (memory : List ℕ) (budget : ℕ) → check_state widths (values m) memory budget ≡ Fit → Good (start m memory)
+pub checked_good : (m : Machine) (memory : List ℕ) (budget : ℕ) → check_state widths (values m) memory budget ≡ Ok tt → Good (start m memory)
 checked_good m memory budget e =
     let sound = state_sound widths (values m) memory budget e in
     let fit = sound.1.narrow in
@@ -60,11 +60,11 @@ good_fitting m memory g =
 
 -- and a good state passes them
 pub good_checked : (m : Machine) (memory : List ℕ) (budget : ℕ) → Good (start m memory) → budget ≤ budget_limit
-    → check_state widths (values m) memory budget ≡ Fit
+    → check_state widths (values m) memory budget ≡ Ok tt
 good_checked m memory budget g h = sound_state widths (values m) memory budget g.memory (good_fitting m memory g) h
 
 -- with devices: theirs fit, too
-pub checked_fit : (m : Machine) (c : Devices) (memory : List ℕ) (budget : ℕ) → check_state (widths ++ device_widths) (values m ++ device_values c) memory budget ≡ Fit
+pub checked_fit : (m : Machine) (c : Devices) (memory : List ℕ) (budget : ℕ) → check_state (widths ++ device_widths) (values m ++ device_values c) memory budget ≡ Ok tt
     → Good (start m memory) × DevicesFit c
 checked_fit m c memory budget e =
     let sound = state_sound (widths ++ device_widths) (values m ++ device_values c) memory budget e in
@@ -74,7 +74,7 @@ checked_fit m c memory budget e =
     )
 
 pub fit_checked : (m : Machine) (c : Devices) (memory : List ℕ) (budget : ℕ) → Good (start m memory) → DevicesFit c → budget ≤ budget_limit
-    → check_state (widths ++ device_widths) (values m ++ device_values c) memory budget ≡ Fit
+    → check_state (widths ++ device_widths) (values m ++ device_values c) memory budget ≡ Ok tt
 fit_checked m c memory budget g f h =
     sound_state (widths ++ device_widths) (values m ++ device_values c) memory budget g.memory
     (record {

@@ -8,9 +8,8 @@ use native.Mathlib.Omega.{arith}
 use lib.Dec.{ltb}
 use lib.ListN.{length, drop, length-drop}
 use Rattle.state.specs.Limits.{budget_limit}
-use Rattle.state.specs.Refusals.{reason_with}
-use Rattle.state.specs.declared.Verdict.{Verdict}
-use Rattle.state.specs.declared.Verdict.TheVariants.{Fit, Unfit}
+use Rattle.state.specs.Refusals.{Verdict, reason_with}
+use Rattle.std.specs.Prelude.{Ok, Err}
 use Rattle.runs.specs.Run.{Ended, ended}
 use Rattle.devices.specs.declared.Devices.{Devices}
 use Rattle.devices.specs.Devices.{DevicesFit}
@@ -32,8 +31,8 @@ run_of m c memory budget input output g f h =
     ap (λ (v : Verdict). by_verdict v) (fit_checked m c memory budget g f h)
   where
     by_verdict : Verdict → DeviceReport
-    by_verdict Fit = finished_devices input output (run (length output) budget (opened (console (start m memory) c) input))
-    by_verdict (Unfit why) = refused_devices why m c memory output
+    by_verdict (Ok fit) = finished_devices input output (run (length output) budget (opened (console (start m memory) c) input))
+    by_verdict (Err why) = refused_devices why m c memory output
 
 -- two answers as one: the steps of both, and what the second left
 abbrev pub joined : DeviceReport → DeviceReport → DeviceReport

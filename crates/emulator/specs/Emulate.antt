@@ -1,18 +1,17 @@
 -- The emulator's answer for every memory, register set and budget: refusals 11 to 14, then the run.
 -- Assumes nothing.
-use Rattle.std.specs.Prelude.{ℕ, List, ◌++◌, length}
+use Rattle.std.specs.Prelude.{ℕ, List, ◌++◌, length, Ok, Err}
+use Rattle.std.specs.declared.result.Result.{Result}
 use Rattle.state.specs.Refusals.{number_of, place_of, reason_of, reason_with, reason_number}
 use Rattle.state.specs.Checks.{check_state}
 use Rattle.state.specs.declared.Reason.{Reason}
 use Rattle.state.specs.declared.Refusal.{Refusal}
-use Rattle.state.specs.declared.Verdict.TheVariants.{Fit, Unfit}
 use Rattle.devices.specs.declared.Devices.{Devices}
 use Rattle.devices.specs.Devices.{device_widths, device_values}
 use Rattle.devices.specs.Session.{Session, place_left, opened, Exchange, exchanged, untouched}
 use Rattle.machine_state.specs.declared.Machine.{Machine}
-use Rattle.emulator.specs.declared.Answer.{Answer}
+use Rattle.emulator.specs.declared.Ended as answer
 use Rattle.emulator.specs.declared.DeviceAnswer.{DeviceAnswer}
-use Rattle.emulator.specs.declared.Answer.TheVariants.{Ran, Refused}
 use Rattle.machine_state.specs.State.{State, start, registers}
 use Rattle.machine_state.specs.Registers.{widths, values}
 use Rattle.runs.specs.Run.{Ended}
@@ -43,16 +42,16 @@ refused why m memory =
     record { number = number_of why; place = place_of why; steps = 0; reason = 0; machine = m; memory = memory }
 
 -- the numbers and values of each case of the emulator's answer, for registers m that came in and the memory that is left
-abbrev pub report : Machine → Answer → List ℕ → Report
-report m (Ran after why steps) memory = ran after why steps memory
-report m (Refused why) memory = refused why m memory
+abbrev pub report : Machine → Result answer.Ended Refusal → List ℕ → Report
+report m (Ok end) memory = ran end.machine end.reason end.steps memory
+report m (Err why) memory = refused why m memory
 
 -- what a run comes to
 abbrev pub finished : Ended State → Report
 finished r = ran (registers r.left) (reason_of r.left.run) r.steps r.left.memory
 
 unfoldable pub emulate : Machine → List ℕ → ℕ → Report
-emulate m memory budget = elim (check_state widths (values m) memory budget) [ Fit ↦ finished (run budget (start m memory)) | Unfit why ↦ refused why m memory ]
+emulate m memory budget = elim (check_state widths (values m) memory budget) [ Ok fit ↦ finished (run budget (start m memory)) | Err why ↦ refused why m memory ]
 
 -- ---- with devices: document 02, Two
 
@@ -89,6 +88,6 @@ refused_devices why m c memory output = record { report = refused why m memory; 
 unfoldable pub emulate_devices : Machine → Devices → List ℕ → ℕ → List ℕ → List ℕ → DeviceReport
 emulate_devices m c memory budget input output =
     elim (check_state (widths ++ device_widths) (values m ++ device_values c) memory budget) [
-      | Fit ↦ finished_devices input output (machine.run (length output) budget (opened (console (start m memory) c) input))
-      | Unfit why ↦ refused_devices why m c memory output
+      | Ok fit ↦ finished_devices input output (machine.run (length output) budget (opened (console (start m memory) c) input))
+      | Err why ↦ refused_devices why m c memory output
     ]

@@ -1,12 +1,11 @@
 // The emulator's entries, without devices and with them: any memory, registers, budget, input and output.
 #![tactic(auto)]
 
-ghost use Rattle.std.specs.Prelude.{◌≡◌, ◌++◌, length};
+ghost use Rattle.std.specs.Prelude.{◌≡◌, ◌++◌, length, Ok};
 ghost use Rattle.state.specs.Checks.{check_state};
 ghost use Rattle.devices.specs.Devices.{device_widths, device_values, DevicesFit};
 ghost use Rattle.devices.specs.Session.{opened as openedSession};
 ghost use Rattle.machine_state.specs.State.{start, Good};
-ghost use Rattle.machine_state.specs.Processor.{narrowed, Narrow};
 ghost use Rattle.machine_state.specs.Registers.{values, widths};
 ghost use Rattle.machine_run.specs.Run.{run};
 ghost use Rattle.machine_console.specs.Console.{console, run as consoleRun};
@@ -16,17 +15,18 @@ use devices::Devices;
 use devices::registers::DEVICE_REGISTERS;
 use machine_state::registers::MACHINE_REGISTERS;
 use machine_state::{Machine, Processor};
-use state::{Reason, Refusal, Verdict};
+use state::{Reason, Refusal};
 
-// The emulator's answer: the registers, reason and steps of a run, or why there was none.
+// What a run leaves of the registers, why it ended, and the steps made.
 #[derive(Clone, Copy)]
-pub enum Answer {
-    Ran(Machine, Reason, u64),
-    Refused(Refusal),
+pub struct Ended {
+    pub machine: Machine,
+    pub reason: Reason,
+    pub steps: u64,
 }
 
 // Refusals 11 to 14, of the registers by their table's widths.
-fn checked(memory: &[u16], m: Machine, budget: u64) -> Verdict
+fn checked(memory: &[u16], m: Machine, budget: u64) -> Result<(), Refusal>
     ensures { result ≡ check_state widths (values m) memory.now budget }
 {
     let widths = machine_state::registers::widths();
@@ -34,59 +34,32 @@ fn checked(memory: &[u16], m: Machine, budget: u64) -> Verdict
     state::check_state(memory, &widths, &values, budget)
 }
 
-// A caller's registers, as the emulator works with them.
-fn opened(m: Machine) -> Processor
-    ensures { narrowed result ≡ m }
-{
-    Processor {
-        lac: m.lac as u64,
-        pc: m.pc as u64,
-        run: m.run as u64,
-        enable: m.enable as u64,
-        request: m.request as u64,
-        switches: m.switches as u64,
-    }
-}
-
-// The registers that the emulator works with, as a caller gets them back.
-fn closed(p: Processor) -> Machine
-    requires { Narrow p }
-    ensures { result ≡ narrowed p }
-{
-    Machine {
-        lac: p.lac as u16,
-        pc: p.pc as u16,
-        run: p.run as u16,
-        enable: p.enable as u16,
-        request: p.request as u16,
-        switches: p.switches as u16,
-    }
-}
-
 // The run of a state that no check turns down.
-fn finished(memory: &mut [u16], m: Machine, budget: u64) -> Answer
+fn finished(memory: &mut [u16], m: Machine, budget: u64) -> Ended
     requires { Good (start m memory.old) }
-    ensures { report m result memory.new ≡ finishedRun (run budget (start m memory.old)) }
+    ensures { report m (Ok result) memory.new ≡ finishedRun (run budget (start m memory.old)) }
 {
-    let end = machine_run::run::run(memory, opened(m), budget);
+    let end = machine_run::run::run(memory, Processor::from(m), budget);
     let p = end.processor;
-    Answer::Ran(closed(p), state::reason_of(p.run), end.steps)
+    Ended {
+        machine: p.narrowed(),
+        reason: state::reason_of(p.run),
+        steps: end.steps,
+    }
 }
 
 // A run of a budget, or the first refusal of 11 to 14, after which all is as it came.
-pub fn emulate(memory: &mut [u16], m: Machine, budget: u64) -> Answer
+pub fn emulate(memory: &mut [u16], m: Machine, budget: u64) -> Result<Ended, Refusal>
     ensures { report m result memory.new ≡ emulation m memory.old budget }
 {
-    match checked(memory, m, budget) {
-        Verdict::Unfit(why) => Answer::Refused(why),
-        Verdict::Fit => finished(memory, m, budget),
-    }
+    checked(memory, m, budget)?;
+    Ok(finished(memory, m, budget))
 }
 
 // The emulator's answer with devices: the devices, as they came after a refusal, the bytes that arrived and the bytes printed.
 #[derive(Clone, Copy)]
 pub struct DeviceAnswer {
-    pub answer: Answer,
+    pub answer: Result<Ended, Refusal>,
     pub devices: Devices,
     pub read: usize,
     pub printed: usize,
@@ -117,7 +90,7 @@ fn all_values(m: Machine, c: Devices) -> [u16; ALL_REGISTERS]
 }
 
 // Refusals 11 to 14, of which 13 looks at all eleven registers.
-fn checked_devices(memory: &[u16], m: Machine, c: Devices, budget: u64) -> Verdict
+fn checked_devices(memory: &[u16], m: Machine, c: Devices, budget: u64) -> Result<(), Refusal>
     ensures { result ≡ check_state (widths ++ device_widths) (values m ++ device_values c) memory.now budget }
 {
     let bits = all_widths();
@@ -134,19 +107,29 @@ fn finished_devices(
     input: &[u8],
     output: &mut [u8],
 ) -> DeviceAnswer
-    requires fact_1 { Good (start m memory.old) }
-    requires fact_2 { DevicesFit c }
+    requires machine_good { Good (start m memory.old) }
+    requires devices_fit { DevicesFit c }
     ensures { device_report m result memory.new output.new
         ≡ finished_devices input.now output.old
         (consoleRun (length output.old) budget (openedSession (console (start m memory.old) c) input.now)) }
 {
-    let end = machine_console::run::run_devices(memory, opened(m), c, budget, input, output);
+    let end = machine_console::run::run_devices(
+        memory,
+        Processor::from(m),
+        c,
+        budget,
+        input,
+        output,
+    );
     let p = end.processor;
-    let d = end.devices;
-    let reason = state::reason_with(p.run, end.printed < output.len());
+    let left = Ended {
+        machine: p.narrowed(),
+        reason: state::reason_with(p.run, end.printed < output.len()),
+        steps: end.steps,
+    };
     DeviceAnswer {
-        answer: Answer::Ran(closed(p), reason, end.steps),
-        devices: d,
+        answer: Ok(left),
+        devices: end.devices,
         read: end.read,
         printed: end.printed,
     }
@@ -165,12 +148,12 @@ pub fn emulate_devices(
         ≡ emulate_devices m c memory.old budget input.now output.old }
 {
     match checked_devices(memory, m, c, budget) {
-        Verdict::Unfit(why) => DeviceAnswer {
-            answer: Answer::Refused(why),
+        Err(why) => DeviceAnswer {
+            answer: Err(why),
             devices: c,
             read: 0,
             printed: 0,
         },
-        Verdict::Fit => finished_devices(memory, m, c, budget, input, output),
+        Ok(()) => finished_devices(memory, m, c, budget, input, output),
     }
 }

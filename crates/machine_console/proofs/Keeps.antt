@@ -1,12 +1,11 @@
 -- "a step keeps words and registers within their widths", with devices: theirs, too.
 -- Assumes nothing.
-use mathlib.Core.List.{List}
 use Prim.Native.Nat.{ℕ, ◌^◌, ◌<◌}
 use native.Mathlib.Omega.{arith}
 use lib.Bits.{bit_or, or_lt}
 use lib.Dec.{lit<}
-use Rattle.word.specs.Choice.{on, pick}
-use Rattle.word.specs.Word.{word_bits, next}
+use Rattle.word.specs.Choice.{pick}
+use Rattle.word.specs.Word.{word_bits}
 use Rattle.word.proofs.Choice.{pick_either}
 use Rattle.word.proofs.Next.{next_lt}
 use Rattle.runs.proofs.Runs.{run_keeps}
@@ -16,13 +15,13 @@ use Rattle.devices.specs.Session.{Session, goes_on}
 use Rattle.devices.specs.Session as session
 use Rattle.devices.specs.Held.{Bytes}
 use Rattle.devices.proofs.Starts.{Flags, fit_flags, begun_fit, unread_bytes}
-use Rattle.machine_state.specs.State.{State, Good, lac_bits, word, with_pc, with_ac}
+use Rattle.machine_state.specs.State.{State, Good, lac_bits, word, with_ac}
 use Rattle.machine_state.specs.Instruction.{is_device}
 use Rattle.machine_state.proofs.Keeps.{lac_good, pc_good, request_good, interrupt_good}
 use Rattle.machine_state.proofs.Lac.{with_ac_lt}
 use Rattle.machine_run.proofs.Keeps.{step_with_good}
 use Rattle.machine_console.specs.Instructions.{skips_on_flag, kcc, krs, tcf, tpc, ac_byte, with_ac_byte, lac_after, devices_after, state_after}
-use Rattle.machine_console.specs.Console.{Console, console, line, line_test, device_step, console_step, running, turn, run}
+use Rattle.machine_console.specs.Console.{Console, line, line_test, device_step, console_step, running, turn, run}
 
 -- the machine's registers and words fit, and the devices' registers
 pub record ConsoleFit (x : Console) : Type 0 where

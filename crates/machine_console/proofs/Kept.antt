@@ -12,7 +12,7 @@ use lib.Seq.{length-take-le}
 use Rattle.laws.proofs.Joined.{and_left, and_right}
 use Rattle.laws.proofs.Tests.{by_test}
 use Rattle.word.specs.Choice.{on}
-use Rattle.runs.specs.Run.{Ended, ended, run_from}
+use Rattle.runs.specs.Run.{ended, run_from}
 use Rattle.runs.proofs.Runs.{run_stops, run_spent}
 use Rattle.devices.specs.declared.Devices.{Devices}
 use Rattle.devices.specs.Devices.{byte_bits, DevicesFit}

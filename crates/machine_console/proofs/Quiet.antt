@@ -16,7 +16,7 @@ use Rattle.machine_state.specs.Instruction.{is_device}
 use Rattle.machine_state.specs.Interrupt.{interrupt_test}
 use Rattle.machine_run.specs.Step.{makes_test, step_with, step}
 use Rattle.machine_run.proofs.Advances.{untested_plain}
-use Rattle.machine_console.specs.Instructions.{state_after, devices_after, lac_after}
+use Rattle.machine_console.specs.Instructions.{state_after}
 use Rattle.machine_console.specs.Console.{Console, console, line, line_test, device_step, console_step, turn}
 use Rattle.machine_console.proofs.Request.{step_leaves, tested_alike, untested_alike, same_test}
 

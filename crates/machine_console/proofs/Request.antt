@@ -10,9 +10,9 @@ use Rattle.word.specs.Choice.{on, pick}
 use Rattle.word.specs.Word.{next}
 use Rattle.word.proofs.Choice.{pick_either, case_true, case_false}
 use Rattle.devices.specs.declared.Devices.{Devices}
-use Rattle.machine_state.specs.State.{State, word, with_pc, with_enable, with_request}
+use Rattle.machine_state.specs.State.{State, word, with_pc, with_request}
 use Rattle.machine_state.specs.Instruction.{op, flag}
-use Rattle.machine_state.specs.Interrupt.{takes_interrupt, interrupt_test, tested_if, ion, iof, input_output}
+use Rattle.machine_state.specs.Interrupt.{takes_interrupt, interrupt_test, ion, iof, input_output}
 use Rattle.machine_operate.specs.Operate.{group1, group2, group3, operate}
 use Rattle.machine_reference.specs.Address.{effective}
 use Rattle.machine_reference.specs.Reference.{operation, reference}

@@ -12,11 +12,11 @@ use Rattle.laws.proofs.Tests.{by_test, by_case}
 use Rattle.laws.proofs.Joined.{and_left, and_right}
 use Rattle.word.specs.Choice.{on, pick}
 use Rattle.word.proofs.Choice.{case_true, case_false}
-use Rattle.runs.specs.Run.{Ended, ended, run_from, run}
+use Rattle.runs.specs.Run.{Ended, ended, run_from}
 use Rattle.runs.proofs.Runs.{run_stops, run_step, from_following}
 use Rattle.runs.proofs.Counts.{steps_within}
 use Rattle.devices.specs.declared.Devices.{Devices}
-use Rattle.devices.specs.Devices.{DevicesFit, begun, unread_after}
+use Rattle.devices.specs.Devices.{DevicesFit, unread_after}
 use Rattle.devices.specs.Session.{Session, goes_on, place_left}
 use Rattle.devices.proofs.Starts.{fit_flags, Settled, begun_settled, begun_fit, unread_bytes}
 use Rattle.machine_state.specs.State.{State, Good, word, with_run, with_request}

@@ -1,4 +1,4 @@
-// The instructions of keyboard and teleprinter: KSF 6031, KCC 6032, KRS 6034, KRB 6036; TSF 6041, TCF 6042, TPC 6044, TLS 6046.
+// The eight instructions of keyboard and teleprinter.
 ghost use Rattle.std.specs.Prelude.{◌≡◌, ◌^◌, ◌<◌};
 ghost use Rattle.std.specs.Int.Bits.{bit_or};
 ghost use Rattle.word.specs.Choice.{pick};
@@ -14,25 +14,29 @@ use devices::Devices;
 use machine_state::Processor;
 use machine_state::interrupt::interrupt_test;
 use machine_state::memory::load;
+use word::pick;
 
-// A number by a test, and a device's register.
-pub fn choose_if(flag: bool, a: u64, b: u64) -> u64
-    ensures { result ≡ pick flag a b }
-{
-    if flag { a } else { b }
-}
+const KSF: u64 = 0o6031;
 
-fn choose_short(flag: bool, x: u16, y: u16) -> u16
-    ensures { result ≡ pick flag x y }
-{
-    if flag { x } else { y }
-}
+const KCC: u64 = 0o6032;
+
+const KRS: u64 = 0o6034;
+
+const KRB: u64 = 0o6036;
+
+const TSF: u64 = 0o6041;
+
+const TCF: u64 = 0o6042;
+
+const TPC: u64 = 0o6044;
+
+const TLS: u64 = 0o6046;
 
 // INTERRUPT.REQUEST, as the devices' flags have it.
 pub fn line(c: Devices) -> u64
     ensures { result ≡ line_of c }
 {
-    (c.keyboard | c.printer) as u64
+    u64::from(c.keyboard | c.printer)
 }
 
 // PC after KSF and TSF.
@@ -40,8 +44,8 @@ fn skip_on_flag(i: u64, c: Devices, pc: u64) -> u64
     requires { pc < 2 ^ word_bits }
     ensures { result ≡ pick (skips_on_flag i c) (next pc) pc }
 {
-    let skips = ((i == 0o6031) & (c.keyboard != 0)) | ((i == 0o6041) & (c.printer != 0));
-    choose_if(skips, word::increment(pc), pc)
+    let skips = ((i == KSF) & (c.keyboard != 0)) | ((i == TSF) & (c.printer != 0));
+    pick(skips, word::increment(pc), pc)
 }
 
 // LAC with a byte or'd into AC<4:11>.
@@ -57,10 +61,10 @@ fn accumulate(i: u64, c: Devices, lac: u64) -> u64
     requires { c.key < 2 ^ byte_bits }
     ensures { result ≡ lac_after i c lac }
 {
-    let cleared = choose_if((i == 0o6032) | (i == 0o6036), lac / 4096 * 4096, lac);
-    choose_if(
-        (i == 0o6034) | (i == 0o6036),
-        or_byte(cleared, c.key as u64),
+    let cleared = pick((i == KCC) | (i == KRB), lac / 4096 * 4096, lac);
+    pick(
+        (i == KRS) | (i == KRB),
+        or_byte(cleared, u64::from(c.key)),
         cleared,
     )
 }
@@ -69,20 +73,20 @@ fn accumulate(i: u64, c: Devices, lac: u64) -> u64
 fn change_devices(i: u64, lac: u64, c: Devices) -> Devices
     ensures { result ≡ devices_after i lac c }
 {
-    let prints = (i == 0o6044) | (i == 0o6046);
+    let prints = (i == TPC) | (i == TLS);
     Devices {
         key: c.key,
-        keyboard: choose_short((i == 0o6032) | (i == 0o6036), 0, c.keyboard),
-        printer: choose_short((i == 0o6042) | (i == 0o6046), 0, c.printer),
-        print: choose_short(prints, (lac % 256) as u16, c.print),
-        mark: choose_short(prints, 1, c.mark),
+        keyboard: pick((i == KCC) | (i == KRB), 0, c.keyboard),
+        printer: pick((i == TCF) | (i == TLS), 0, c.printer),
+        print: pick(prints, (lac % 256) as u16, c.print),
+        mark: pick(prints, 1, c.mark),
     }
 }
 
 // The step of a device's word, its interrupt test included.
 pub fn device_word(memory: &mut [u16], p: Processor, c: Devices) -> Console
-    requires fact_1 { Good (at p memory.old) }
-    requires fact_2 { DevicesFit c }
+    requires good { Good (at p memory.old) }
+    requires fit { DevicesFit c }
     ensures { console (at result.processor memory.new) result.devices ≡ device_step (console (at p memory.old) c) }
 {
     let i = load(memory, p.pc);

@@ -36,8 +36,8 @@ pub fn run_devices(
     input: &[u8],
     output: &mut [u8],
 ) -> SessionEnd
-    requires fact_1 { Good (at p memory.old) }
-    requires fact_2 { DevicesFit c }
+    requires good { Good (at p memory.old) }
+    requires fit { DevicesFit c }
     ensures { Ran (at p memory.old) c budget input.now output.old memory.new output.new result }
 {
     let mut q = p;
@@ -45,6 +45,7 @@ pub fn run_devices(
     let mut steps = 0;
     let mut read = 0;
     let mut printed = 0;
+    // No `for`: a round makes as many steps as it makes, and three things end the run.
     while goes_on(steps, budget, q.run, printed, output.len()) {
         let b = begin(d, input, read);
         read = b.read;

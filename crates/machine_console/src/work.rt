@@ -4,17 +4,19 @@ ghost use Rattle.runs.specs.Run.{ended};
 ghost use Rattle.devices.specs.Devices.{DevicesFit};
 ghost use Rattle.machine_state.specs.State.{Good};
 ghost use Rattle.machine_state.specs.Processor.{at};
-ghost use Rattle.machine_operate.specs.Operate.{clears_run};
 ghost use Rattle.machine_run.specs.Step.{makes_test};
 ghost use Rattle.machine_console.specs.Console.{console};
 ghost use Rattle.machine_console.specs.Rounds.{worked};
 
-use crate::instructions::{choose_if, device_word, line};
+use crate::instructions::{device_word, line};
 use devices::Devices;
+use machine_operate::groups::clears_run;
 use machine_run::run::stretch;
 use machine_run::step::PAUSED;
 use machine_state::Processor;
+use machine_state::interrupt::ION;
 use machine_state::memory::load;
+use word::pick;
 
 // The registers and devices that a round leaves, and the steps made by then.
 #[derive(Clone, Copy)]
@@ -24,23 +26,7 @@ pub struct Worked {
     pub steps: u64,
 }
 
-// The places of bits 3, 11 and 10 in an instruction of op 7.
-const OTHER_GROUPS: u64 = 256;
-
-const THIRD: u64 = 1;
-
-const HLT: u64 = 2;
-
-const ION: u64 = 0o6001;
-
 const OPERATE: u64 = 7;
-
-// Whether an instruction of op 7 sets RUN to 0.
-fn clears_run(i: u64) -> bool
-    ensures { result ≡ clears_run i }
-{
-    (i / OTHER_GROUPS % 2 != 0) & !(i / THIRD % 2 != 0) & (i / HLT % 2 != 0)
-}
 
 // Whether the step of an instruction makes an interrupt test.
 fn makes_test(i: u64) -> bool
@@ -52,26 +38,24 @@ fn makes_test(i: u64) -> bool
 // A round between the start of a step and the print. INTERRUPT.REQUEST stays the or of the flags up to the next device's word, as these do; where the first step
 // makes no test it is not refreshed, and the stretch is that one step.
 pub fn work(memory: &mut [u16], p: Processor, c: Devices, steps: u64, budget: u64) -> Worked
-    requires fact_1 { Good (at p memory.old) }
-    requires fact_2 { DevicesFit c }
-    requires fact_3 { steps < budget }
+    requires good { Good (at p memory.old) }
+    requires fit { DevicesFit c }
+    requires left { steps < budget }
     ensures { ended result.steps (console (at result.processor memory.new) result.devices)
         ≡ worked (budget - steps) steps (console (at p memory.old) c) }
 {
     let tests = makes_test(load(memory, p.pc));
     let mut q = p;
-    q.request = choose_if(tests, line(c), p.request);
-    let t = stretch(memory, q, steps, choose_if(tests, budget, steps + 1), true);
+    q.request = pick(tests, line(c), p.request);
+    let t = stretch(memory, q, steps, pick(tests, budget, steps + 1), true);
     let mut r = t.processor;
     if r.lac >= PAUSED {
         r.lac -= PAUSED;
         r.run = 1;
         let x = device_word(memory, r, c);
-        let s = x.processor;
-        let d = x.devices;
         return Worked {
-            processor: s,
-            devices: d,
+            processor: x.processor,
+            devices: x.devices,
             steps: t.steps,
         };
     }

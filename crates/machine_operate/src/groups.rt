@@ -15,6 +15,8 @@ use machine_state::Processor;
 use machine_state::interrupt::interrupt_test;
 use word::WORD_VALUES;
 
+const OTHER_GROUPS: u64 = 0o400;
+
 const OSR: u64 = 0o4;
 
 const HLT: u64 = 0o2;
@@ -23,8 +25,8 @@ const THIRD: u64 = 0o1;
 
 // Bit 9 ors SWITCHES into AC.
 fn or_switches(i: u64, switches: u64, lac: u64) -> u64
-    requires fact_1 { lac < 2 ^ lac_bits }
-    requires fact_2 { switches < 2 ^ word_bits }
+    requires lac { lac < 2 ^ lac_bits }
+    requires switches { switches < 2 ^ word_bits }
     ensures { result ≡ switched i switches lac }
 {
     if i / OSR % 2 != 0 {
@@ -41,10 +43,18 @@ fn halt(i: u64, run: u64) -> u64
     if i / HLT % 2 != 0 { 0 } else { run }
 }
 
+// Whether an instruction of op 7 sets RUN to 0.
+#[tactic(auto, unfolding(crate::specs::Operate::clears_run))]
+pub fn clears_run(i: u64) -> bool
+    ensures { result ≡ clears_run i }
+{
+    (i / OTHER_GROUPS % 2 != 0) & !(i / THIRD % 2 != 0) & (i / HLT % 2 != 0)
+}
+
 // Op 7, bit 3 = 0.
 pub fn first_group(memory: &mut [u16], p: Processor, i: u64) -> Processor
-    requires fact_1 { Good (at p memory.old) }
-    requires fact_2 { flag 3 i ≡ 0 }
+    requires good { Good (at p memory.old) }
+    requires first { flag 3 i ≡ 0 }
     ensures { at result memory.new ≡ interrupt_test (operate i (at p memory.old)) }
 {
     let mut q = p;
@@ -83,8 +93,8 @@ fn third_group(memory: &mut [u16], p: Processor, i: u64) -> Processor
 
 // Op 7, bit 3 = 1: bit 11 tells the third group from the second.
 pub fn other_groups(memory: &mut [u16], p: Processor, i: u64) -> Processor
-    requires fact_1 { Good (at p memory.old) }
-    requires fact_2 { flag 3 i ≡ 1 }
+    requires good { Good (at p memory.old) }
+    requires other { flag 3 i ≡ 1 }
     ensures { at result memory.new ≡ tested_if interrupt_test (not (clears_run i)) (operate i (at p memory.old)) }
 {
     if i / THIRD % 2 != 0 {

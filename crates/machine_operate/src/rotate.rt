@@ -12,8 +12,8 @@ const TWICE: u64 = 0o2;
 // What LAC is multiplied by for the rotation to the left that bits 8 to 10 ask for, by the number that they make: RAL, RTL, RAR (12 places) or
 // RTR (11). A rotation both ways, or none, leaves LAC as it is.
 fn factor(i: u64) -> u64
-    ensures fact_1 { ((x : ℕ) → x < 2 ^ lac_bits → x * result < 2 ^ 26) }
-    ensures fact_2 { ((x : ℕ) → x < 2 ^ lac_bits → x * result % 2 ^ lac_bits + x * result / 2 ^ lac_bits ≡ rotated i x) }
+    ensures fits { ((x : ℕ) → x < 2 ^ lac_bits → x * result < 2 ^ 26) }
+    ensures rotates { ((x : ℕ) → x < 2 ^ lac_bits → x * result % 2 ^ lac_bits + x * result / 2 ^ lac_bits ≡ rotated i x) }
 {
     match i / TWICE % 8 {
         2 => 2,

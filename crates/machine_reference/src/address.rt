@@ -24,13 +24,22 @@ pub struct PageNumber(pub u64);
 #[derive(Clone, Copy)]
 pub struct PageAddress(pub u64);
 
+// The address of a word of memory.
+#[derive(Clone, Copy)]
+pub struct Address {
+    pub number: u64,
+    ghost in_memory: { number < 2 ^ word_bits },
+}
+
 // The address of a word of a page.
-fn joined(page: PageNumber, within: PageAddress) -> u64
-    requires fact_1 { page.0 < 2 ^ 5 }
-    requires fact_2 { within.0 < 2 ^ 7 }
-    ensures { result ≡ address page.0 within.0 }
+fn joined(page: PageNumber, within: PageAddress) -> Address
+    requires page { page.0 < 2 ^ 5 }
+    requires within { within.0 < 2 ^ 7 }
+    ensures { result.number ≡ address page.0 within.0 }
 {
-    page.0 * PAGE_WORDS + within.0
+    Address {
+        number: page.0 * PAGE_WORDS + within.0,
+    }
 }
 
 // The page of an instruction that was fetched from `last`: page 0, or the page of `last` itself.
@@ -52,31 +61,32 @@ fn page_address(i: u64) -> PageAddress
 }
 
 // The address before any indirection, which an instruction with ib = 0 works on.
-pub fn first_address(i: u64, last: u64) -> u64
-    ensures { result ≡ first_address i last }
+pub fn first_address(i: u64, last: u64) -> Address
+    ensures { result.number ≡ first_address i last }
 {
     joined(page(i, last), page_address(i))
 }
 
 // Auto-indexing: the word at a first address from 0010 to 0017 is increased.
-fn auto_index(memory: &mut [u16], a: u64)
-    requires fact_1 { Acceptable memory.old }
-    requires fact_2 { a < 2 ^ word_bits }
-    ensures { memory.new ≡ indexed a memory.old }
+fn auto_index(memory: &mut [u16], a: Address)
+    requires { Acceptable memory.old }
+    ensures { memory.new ≡ indexed a.number memory.old }
 {
-    if a / 8 == 1 {
-        let word = load(memory, a);
-        store(memory, a, word::increment(word));
+    if a.number / 8 == 1 {
+        let word = load(memory, a.number);
+        store(memory, a.number, word::increment(word));
     }
 }
 
 // The address that an instruction with ib = 1 works on. Auto-indexing may have changed a word on the way.
-pub fn indirect_address(memory: &mut [u16], i: u64, last: u64) -> u64
-    requires fact_1 { Acceptable memory.old }
-    requires fact_2 { ib i ≡ 1 }
-    ensures { Addressed i last memory.old memory.new result }
+pub fn indirect_address(memory: &mut [u16], i: u64, last: u64) -> Address
+    requires acceptable { Acceptable memory.old }
+    requires indirect { ib i ≡ 1 }
+    ensures { Addressed i last memory.old memory.new result.number }
 {
     let first = first_address(i, last);
     auto_index(memory, first);
-    load(memory, first)
+    Address {
+        number: load(memory, first.number),
+    }
 }

@@ -18,10 +18,10 @@ use machine_state::Processor;
 
 // The instruction i of ops 0 to 5 that was fetched from `last`: its address is worked out once, in the arm of its op and ib.
 pub fn refer(memory: &mut [u16], p: Processor, i: u64, last: u64) -> Processor
-    requires fact_1 { Good (at p memory.old) }
-    requires fact_2 { i < 2 ^ word_bits }
-    requires fact_3 { last < 2 ^ word_bits }
-    requires fact_4 { op i < 6 }
+    requires good { Good (at p memory.old) }
+    requires instruction { i < 2 ^ word_bits }
+    requires last { last < 2 ^ word_bits }
+    requires op { op i < 6 }
     ensures { at result memory.new ≡ interrupt_test (reference i last (at p memory.old)) }
 {
     match i / 256 % 16 {
@@ -37,9 +37,9 @@ pub fn refer(memory: &mut [u16], p: Processor, i: u64, last: u64) -> Processor
 
 // The same where ib = 1.
 fn refer_indirectly(memory: &mut [u16], p: Processor, i: u64, last: u64) -> Processor
-    requires fact_1 { Good (at p memory.old) }
-    requires fact_2 { op i < 6 }
-    requires fact_3 { ib i ≡ 1 }
+    requires good { Good (at p memory.old) }
+    requires op { op i < 6 }
+    requires indirect { ib i ≡ 1 }
     ensures { at result memory.new ≡ interrupt_test (reference i last (at p memory.old)) }
 {
     match i / 256 % 16 {

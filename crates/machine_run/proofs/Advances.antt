@@ -4,12 +4,11 @@ use mathlib.Core.Path.{◌≡◌, refl, sym, ap, ◌∙◌}
 use mathlib.Core.Bool.{Bool, true, false, not, ◌&&◌}
 use Prim.Native.Nat.{ℕ, ◌/◌, ◌≤◌, ◌<◌}
 use native.Mathlib.Omega.{arith}
-use lib.Dec.{eqb, lit<, lit≤}
+use lib.Dec.{eqb, lit<}
 use borrow.Author.Tests.{eqb-true, ne_eqb}
 use Rattle.laws.proofs.Tests.{by_test, not_so}
 use Rattle.laws.proofs.Joined.{and_right, either}
 use Rattle.word.specs.Choice.{pick}
-use Rattle.word.specs.Word.{next}
 use Rattle.word.proofs.Choice.{case_false}
 use Rattle.machine_state.specs.State.{State, word, with_pc}
 use Rattle.machine_state.specs.Instruction.{op, is_device}

@@ -1,24 +1,21 @@
 -- What a stretch leaves: a good state, or one that is good but for its pause; and that one without devices is a run.
 -- Assumes nothing.
-use mathlib.Core.Path.{◌≡◌, refl, sym, ap, ap₂, ◌∙◌, subst}
+use mathlib.Core.Path.{◌≡◌, refl, sym, ap, ◌∙◌, subst}
 use mathlib.Core.Bool.{Bool, true, false, false≢true, ◌&&◌}
-use Prim.Native.Nat.{ℕ, ◌+◌, ◌-◌, ◌^◌, ◌≤◌, ◌<◌}
+use Prim.Native.Nat.{ℕ, ◌+◌, ◌-◌, ◌^◌, ◌<◌}
 use native.Mathlib.Nat.{sub-zero}
 use native.Mathlib.Omega.{arith}
-use lib.Dec.{leb, lit<}
+use lib.Dec.{lit<}
 use lib.ListN.{length}
 use borrow.Author.Tests.{le-leb, lt-leb}
 use Rattle.laws.proofs.Tests.{by_test, by_case, not_so}
-use Rattle.word.specs.Choice.{on, pick}
-use Rattle.word.proofs.Choice.{case_true, case_false, pick_either}
+use Rattle.word.specs.Choice.{on}
+use Rattle.word.proofs.Choice.{case_true, case_false}
 use Rattle.state.specs.Limits.{memory_words}
-use Rattle.runs.specs.Run.{Ended, ended, run_from}
 use Rattle.runs.proofs.Runs.{keeps_from}
-use Rattle.runs.proofs.Alike.{same_runs}
 use Rattle.machine_state.specs.State.{State, lac_bits, Good, word, with_lac, with_run}
 use Rattle.machine_state.specs.Instruction.{is_device}
 use Rattle.machine_state.proofs.Keeps.{run_good}
-use Rattle.machine_run.specs.Step.{step}
 use Rattle.machine_run.specs.Run.{running, run}
 use Rattle.machine_run.specs.Stretch.{paused_at, is_paused, unpaused, Ready, advance, stretch_from}
 use Rattle.machine_run.proofs.Keeps.{step_good}

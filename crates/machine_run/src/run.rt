@@ -27,13 +27,14 @@ fn bound(number: u64, run: u64) -> u64
 
 // Steps in one stretch, `done` having been made: up to a limit, a halt or, with devices, a word of theirs. The one loop of the machine with devices and without.
 pub fn stretch(memory: &mut [u16], p: Processor, done: u64, limit: u64, devices: bool) -> Progress
-    requires fact_1 { Good (at p memory.old) }
-    requires fact_2 { done ≤ limit }
+    requires good { Good (at p memory.old) }
+    requires done { done ≤ limit }
     ensures { ended result.steps (at result.processor memory.new) ≡ stretch_from devices (limit - done) done (at p memory.old) }
 {
     let mut q = p;
     let mut steps = done;
     let mut end = bound(limit, p.run);
+    // No `for`: the end falls at a halt; with a second test for that, each step cost 10 to 20 % more (docs/DECISIONS.md).
     while steps < end {
         q = step(memory, q, devices);
         steps += 1;

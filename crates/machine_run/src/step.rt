@@ -12,6 +12,7 @@ use machine_state::Processor;
 use machine_state::interrupt::input_output;
 use machine_state::memory::load;
 
+// A mark in LAC, and no Option or field: another test in the loop of `stretch` took up to a fifth of the time.
 // What a paused machine's LAC has more than it had; its PC is the address of the device's word before which it paused, its RUN is 0.
 pub const PAUSED: u64 = machine_state::LAC_VALUES;
 
@@ -24,11 +25,11 @@ fn is_device(i: u64) -> bool
 
 // Op 6 of a word that was fetched from `last`. With devices a word of theirs is given back, and the machine is paused.
 fn input_output_or(memory: &mut [u16], p: Processor, i: u64, last: u64, devices: bool) -> Processor
-    requires fact_1 { 0 < length memory.old }
-    requires fact_2 { p.lac < 2 ^ lac_bits }
-    requires fact_3 { p.pc < 2 ^ word_bits }
-    requires fact_4 { p.enable < 2 }
-    requires fact_5 { p.request < 2 }
+    requires first_word { 0 < length memory.old }
+    requires lac { p.lac < 2 ^ lac_bits }
+    requires pc { p.pc < 2 ^ word_bits }
+    requires enable { p.enable < 2 }
+    requires request { p.request < 2 }
     ensures { at result memory.new ≡ input_output_or devices i last (at p memory.old) }
 {
     if devices & is_device(i) {

@@ -3,11 +3,10 @@
 -- Assumes nothing.
 use mathlib.Core.Path.{◌≡◌, refl, sym, ap, ◌∙◌}
 use mathlib.Core.Bool.{true, false}
-use mathlib.Core.List.{List, [], ◌∷◌}
+use mathlib.Core.List.{List}
 use Prim.Native.Nat.{ℕ, zero, suc, ◌+◌, ◌≤◌, ◌<◌}
 use native.Mathlib.Nat.{zero-add, add-zero, add-suc, suc-add}
 use native.Mathlib.Numerals.{add-one}
-use native.Mathlib.Omega.{arith}
 use lib.Dec.{lit≤}
 use lib.ListN.{length, get_or, set, take, drop, drop_of_length-le, get_or-map}
 use lib.Seq.{sets, drop-cons}
@@ -15,10 +14,10 @@ use Rattle.laws.proofs.Lists.{sets_more, spelled_all}
 use Rattle.characters.specs.Characters.{same}
 use Rattle.characters.specs.Named.{Named, find}
 use Rattle.machine_state.specs.declared.Machine.{Machine}
-use Rattle.machine_state.specs.declared.registers.Register.{Register}
+use Rattle.characters.specs.declared.registers.Register.{Register}
 use Rattle.machine_state.specs.State.{lac_bits}
 use Rattle.machine_state.specs.Registers.{machine_registers, widths, values, machine_of}
-use Rattle.machine_state.specs.Table.{named, nameless}
+use Rattle.characters.specs.Table.{named, nameless}
 
 pub by_register : (P : ℕ → Type 0) → P 0 → P 1 → P 2 → P 3 → P 4 → P 5 → ((k : ℕ) → P (suc (suc (suc (suc (suc (suc k))))))) → (k : ℕ) → P k
 by_register P lac pc run enable request switches past zero = lac

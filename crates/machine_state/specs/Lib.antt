@@ -1,6 +1,5 @@
 pub mod State
 pub mod Processor
 pub mod Registers
-pub mod Table
 pub mod Instruction
 pub mod Interrupt

@@ -7,24 +7,25 @@ ghost use Rattle.machine_state.specs.Interrupt.{interrupt_test, tested_if, ion, 
 use crate::Processor;
 use crate::memory::store;
 
-const ION: u64 = 0o6001;
+pub const ION: u64 = 0o6001;
 
 const IOF: u64 = 0o6002;
 
 // The end of a step: an enabled request is served.
 pub fn interrupt_test(memory: &mut [u16], p: Processor) -> Processor
-    requires fact_1 { 0 < length memory.old }
-    requires fact_2 { p.pc < 2 ^ word_bits }
-    requires fact_3 { p.enable < 2 }
-    requires fact_4 { p.request < 2 }
+    requires first_word { 0 < length memory.old }
+    requires pc { p.pc < 2 ^ word_bits }
+    requires enable { p.enable < 2 }
+    requires request { p.request < 2 }
     ensures { at result memory.new ≡ interrupt_test (at p memory.old) }
 {
     if p.enable & p.request != 0 {
         store(memory, 0, p.pc);
-        let mut q = p;
-        q.pc = 1;
-        q.enable = 0;
-        q
+        Processor {
+            pc: 1,
+            enable: 0,
+            ..p
+        }
     } else {
         p
     }
@@ -32,21 +33,18 @@ pub fn interrupt_test(memory: &mut [u16], p: Processor) -> Processor
 
 // Op 6, and the step's interrupt test, which 6001 omits.
 pub fn input_output(memory: &mut [u16], p: Processor, i: u64) -> Processor
-    requires fact_1 { 0 < length memory.old }
-    requires fact_2 { p.pc < 2 ^ word_bits }
-    requires fact_3 { p.enable < 2 }
-    requires fact_4 { p.request < 2 }
+    requires first_word { 0 < length memory.old }
+    requires pc { p.pc < 2 ^ word_bits }
+    requires enable { p.enable < 2 }
+    requires request { p.request < 2 }
     ensures { at result memory.new ≡ tested_if interrupt_test (not (eqb i ion)) (input_output i (at p memory.old)) }
 {
     if i == ION {
-        let mut q = p;
-        q.enable = 1;
-        return q;
+        return Processor { enable: 1, ..p };
     }
     if i == IOF {
-        let mut q = p;
-        q.enable = 0;
-        return interrupt_test(memory, q);
+        let off = Processor { enable: 0, ..p };
+        return interrupt_test(memory, off);
     }
     interrupt_test(memory, p)
 }

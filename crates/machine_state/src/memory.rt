@@ -7,20 +7,13 @@ pub fn load(memory: &[u16], address: u64) -> u64
     requires { address < length memory.now }
     ensures { result ≡ get_or memory.now address 0 }
 {
-    widened(memory[address as usize])
-}
-
-// A word as such a number.
-fn widened(x: u16) -> u64
-    ensures { result ≡ x }
-{
-    x as u64
+    u64::from(memory[address as usize])
 }
 
 // Memory with a word stored at an address.
 pub fn store(memory: &mut [u16], address: u64, x: u64)
-    requires fact_1 { address < length memory.old }
-    requires fact_2 { x < 2 ^ word_bits }
+    requires within { address < length memory.old }
+    requires word { x < 2 ^ word_bits }
     ensures { memory.new ≡ set memory.old address x }
 {
     memory[address as usize] = x as u16;

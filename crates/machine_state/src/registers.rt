@@ -1,57 +1,41 @@
 // The machine registers as one table, and their values in its order.
 ghost use Rattle.std.specs.Prelude.{◌≡◌, ◌≤◌, ◌<◌, length, get_or};
 ghost use Rattle.word.specs.Word.{widest};
-ghost use Rattle.characters.specs.Named.{find};
+ghost use Rattle.characters.specs.Named.{found};
+ghost use Rattle.characters.specs.Table.{named, nameless};
 ghost use Rattle.machine_state.specs.Registers.{machine_registers, widths as tableWidths, digits_of, values};
-ghost use Rattle.machine_state.specs.Table.{named, nameless};
 
 use crate::Machine;
+use characters::registers::{Register, place_in};
 
 // The registers that the machine has.
 pub const MACHINE_REGISTERS: usize = 6;
 
-// The most bytes of a name.
-pub const NAME_BYTES: usize = 20;
-
-// A register: its bits, and its name, so many first bytes of the letters.
-#[derive(Clone, Copy)]
-pub struct Register {
-    pub width: u64,
-    pub size: usize,
-    pub letters: [u8; NAME_BYTES],
-}
-
 // The machine registers, in document 01's order.
 const TABLE: [Register; MACHINE_REGISTERS] = [
     Register {
+        name: b"LAC",
         width: 13,
-        size: 3,
-        letters: *b"LAC                 ",
     },
     Register {
+        name: b"PC",
         width: 12,
-        size: 2,
-        letters: *b"PC                  ",
     },
     Register {
+        name: b"RUN",
         width: 1,
-        size: 3,
-        letters: *b"RUN                 ",
     },
     Register {
+        name: b"INTERRUPT.ENABLE",
         width: 1,
-        size: 16,
-        letters: *b"INTERRUPT.ENABLE    ",
     },
     Register {
+        name: b"INTERRUPT.REQUEST",
         width: 1,
-        size: 17,
-        letters: *b"INTERRUPT.REQUEST   ",
     },
     Register {
+        name: b"SWITCHES",
         width: 12,
-        size: 8,
-        letters: *b"SWITCHES            ",
     },
 ];
 
@@ -63,34 +47,18 @@ pub fn register_at(place: usize) -> Register
     TABLE[place]
 }
 
-// The place of a register in their order, by its name; their number where it is none.
-pub fn place_of(name: &[u8]) -> usize
-    ensures { result ≡ find name.now machine_registers }
+// The place of a register in their order, by its name.
+pub fn place_of(name: &[u8]) -> Option<usize>
+    ensures { result ≡ found name.now machine_registers }
 {
-    let mut k = 0;
-    while k < MACHINE_REGISTERS {
-        let register = register_at(k);
-        let letters = register.letters;
-        if characters::is_same(characters::part(&letters, 0, register.size), name) {
-            return k;
-        }
-        k += 1;
-    }
-    k
+    place_in(&TABLE, name)
 }
 
 // The widths of the registers.
 pub fn widths() -> [u64; MACHINE_REGISTERS]
     ensures { result ≡ tableWidths }
 {
-    let mut all = [0u64; MACHINE_REGISTERS];
-    let mut k = 0;
-    while k < MACHINE_REGISTERS {
-        let entry = register_at(k);
-        all[k] = entry.width;
-        k += 1;
-    }
-    all
+    TABLE.map(|register| register.width)
 }
 
 // The octal digits of a width: a digit for every three bits begun.

@@ -14,67 +14,70 @@ use borrow.Author.Tests.{eqb-true, ltb-true, ltb-false, eq-eqb, lt-ltb, le-ltb}
 use Rattle.word.specs.Choice.{pick}
 use Rattle.word.specs.Word.{word_bits}
 use Rattle.state.specs.Limits.{memory_words, budget_limit, row_places}
-use Rattle.state.specs.Checks.{first_too_wide, first_large_word, first_wide_register, check_memory, check_registers, check_budget, check_state, check_row_list}
-use Rattle.state.specs.Refusals.{or_else}
+use Rattle.std.specs.Prelude.{Some, None, Ok, Err}
+use Rattle.std.specs.declared.option.Option.{Option}
+use Rattle.state.specs.Checks.{first_too_wide, refused_at, first_large_word, first_wide_register, check_memory, check_registers, check_budget, check_state, check_row_list}
+use Rattle.state.specs.Refusals.{Verdict, or_else}
 use Rattle.state.specs.Acceptable.{Acceptable, Fitting}
 use Rattle.state.specs.declared.Refusal.{Refusal}
-use Rattle.state.specs.declared.Refusal.TheVariants.{MemoryLength, Budget, RowList}
-use Rattle.state.specs.declared.Verdict.{Verdict}
-use Rattle.state.specs.declared.Verdict.TheVariants.{Fit, Unfit}
+use Rattle.state.specs.declared.Refusal.TheVariants.{MemoryLength, Word, Register, Budget, RowList}
 use Rattle.state.proofs.Scan.{all_fit, none_too_wide}
 
 -- a verdict by a test is fit only on the side that is
-fit_false : (b : Bool) (why : Refusal) (other : Verdict) → pick b (Unfit why) other ≡ Fit → (b ≡ false) × (other ≡ Fit)
+fit_false : (b : Bool) (why : Refusal) (other : Verdict) → pick b (Err why) other ≡ Ok tt → (b ≡ false) × (other ≡ Ok tt)
 fit_false true why other e = (cc, cc)
 fit_false false why other e = (refl, e)
 
-fit_true : (b : Bool) (other : Verdict) (why : Refusal) → pick b other (Unfit why) ≡ Fit → (b ≡ true) × (other ≡ Fit)
+fit_true : (b : Bool) (other : Verdict) (why : Refusal) → pick b other (Err why) ≡ Ok tt → (b ≡ true) × (other ≡ Ok tt)
 fit_true true other why e = (refl, e)
 fit_true false other why e = (cc, cc)
 
+-- and one by a place, only where there is none
+fit_nowhere : (why : ℕ → Refusal) (place : Option ℕ) → refused_at why place ≡ Ok tt → place ≡ None
+fit_nowhere why (Some place) e = cc
+fit_nowhere why None e = refl
+
 -- a scan that found nothing bounds every place, also past the list
-narrow_all : (width : ℕ → ℕ) (l : List ℕ) → length l ≤ first_too_wide width 0 l → (k : ℕ) → get_or l k 0 < 2 ^ width k
+narrow_all : (width : ℕ → ℕ) (l : List ℕ) → first_too_wide width 0 l ≡ None → (k : ℕ) → get_or l k 0 < 2 ^ width k
 narrow_all width l h k =
     elim (dec_lt k (length l)) [
       | yes q ↦ ltb-true _ _ (all_fit width l h k q)
       | no q ↦ (let past : length l ≤ k = omega arith in rw (get_or-eq_default l 0 past) (pow_pos (width k)))
     ]
 
-pub memory_acceptable : (memory : List ℕ) → check_memory memory ≡ Fit → Acceptable memory
+pub memory_acceptable : (memory : List ℕ) → check_memory memory ≡ Ok tt → Acceptable memory
 memory_acceptable memory e =
     let first = fit_true (eqb (length memory) memory_words) _ MemoryLength e in
-    let later = fit_false (ltb (first_large_word memory) (length memory)) _ Fit first.1 in
-    record { size = eqb-true _ _ first.0; words = narrow_all (λ k. word_bits) memory (ltb-false _ _ later.0) }
+    record { size = eqb-true _ _ first.0; words = narrow_all (λ k. word_bits) memory (fit_nowhere Word (first_large_word memory) first.1) }
 
-pub acceptable_memory : (memory : List ℕ) → Acceptable memory → check_memory memory ≡ Fit
+pub acceptable_memory : (memory : List ℕ) → Acceptable memory → check_memory memory ≡ Ok tt
 acceptable_memory memory a =
-    simp (eq-eqb _ _ a.size, le-ltb _ _ (none_too_wide (λ k. word_bits) memory (λ k q. lt-ltb _ _ (a.words k))))
+    simp (eq-eqb _ _ a.size, none_too_wide (λ k. word_bits) memory (λ k q. lt-ltb _ _ (a.words k)))
 
-pub registers_fitting : (widths values : List ℕ) → check_registers widths values ≡ Fit → Fitting widths values
+pub registers_fitting : (widths values : List ℕ) → check_registers widths values ≡ Ok tt → Fitting widths values
 registers_fitting widths values e =
-    let later = fit_false (ltb (first_wide_register widths values) (length values)) _ Fit e in
-    record { narrow = narrow_all (λ k. get_or widths k 0) values (ltb-false _ _ later.0) }
+    record { narrow = narrow_all (λ k. get_or widths k 0) values (fit_nowhere Register (first_wide_register widths values) e) }
 
-pub fitting_registers : (widths values : List ℕ) → Fitting widths values → check_registers widths values ≡ Fit
+pub fitting_registers : (widths values : List ℕ) → Fitting widths values → check_registers widths values ≡ Ok tt
 fitting_registers widths values f =
-    simp (le-ltb _ _ (none_too_wide (λ k. get_or widths k 0) values (λ k q. lt-ltb _ _ (f.narrow k))))
+    simp (none_too_wide (λ k. get_or widths k 0) values (λ k q. lt-ltb _ _ (f.narrow k)))
 
-pub budget_within : (budget : ℕ) → check_budget budget ≡ Fit → budget ≤ budget_limit
-budget_within budget e = ltb-false _ _ (fit_false (ltb budget_limit budget) Budget Fit e).0
+pub budget_within : (budget : ℕ) → check_budget budget ≡ Ok tt → budget ≤ budget_limit
+budget_within budget e = ltb-false _ _ (fit_false (ltb budget_limit budget) Budget (Ok tt) e).0
 
-pub within_budget : (budget : ℕ) → budget ≤ budget_limit → check_budget budget ≡ Fit
+pub within_budget : (budget : ℕ) → budget ≤ budget_limit → check_budget budget ≡ Ok tt
 within_budget budget h = simp (le-ltb _ _ h)
 
-pub row_list_long : (places : ℕ) → check_row_list places ≡ Fit → row_places ≤ places
-row_list_long places e = ltb-false _ _ (fit_false (ltb places row_places) RowList Fit e).0
+pub row_list_long : (places : ℕ) → check_row_list places ≡ Ok tt → row_places ≤ places
+row_list_long places e = ltb-false _ _ (fit_false (ltb places row_places) RowList (Ok tt) e).0
 
 -- where two checks in order find nothing, neither does
-pub both_fit : (a b : Verdict) → or_else a b ≡ Fit → (a ≡ Fit) × (b ≡ Fit)
-both_fit Fit b e = (refl, e)
-both_fit (Unfit why) b e = (cc, cc)
+pub both_fit : (a b : Verdict) → or_else a b ≡ Ok tt → (a ≡ Ok tt) × (b ≡ Ok tt)
+both_fit (Ok fit) b e = (refl, e)
+both_fit (Err why) b e = (cc, cc)
 
 -- the checks of memory, registers and budget together
-pub state_sound : (widths values memory : List ℕ) (budget : ℕ) → check_state widths values memory budget ≡ Fit
+pub state_sound : (widths values memory : List ℕ) (budget : ℕ) → check_state widths values memory budget ≡ Ok tt
     → Acceptable memory × Fitting widths values × (budget ≤ budget_limit)
 state_sound widths values memory budget e =
     let first = both_fit (check_memory memory) (or_else (check_registers widths values) (check_budget budget)) e in
@@ -82,7 +85,7 @@ state_sound widths values memory budget e =
     (memory_acceptable memory first.0, registers_fitting widths values second.0, budget_within budget second.1)
 
 pub sound_state : (widths values memory : List ℕ) (budget : ℕ) → Acceptable memory → Fitting widths values → budget ≤ budget_limit
-    → check_state widths values memory budget ≡ Fit
+    → check_state widths values memory budget ≡ Ok tt
 sound_state widths values memory budget a f h =
     rw (acceptable_memory memory a, fitting_registers widths values f, within_budget budget h)
 

@@ -1,13 +1,12 @@
 -- The papers' numbers and values for the answers that both engines give: state refusals and the reasons of a run's end.
 -- Assumes nothing.
-use Rattle.std.specs.Prelude.{ℕ, Bool, true}
+use Rattle.std.specs.Prelude.{ℕ, Bool, true, Ok, Err, ⊤}
+use Rattle.std.specs.declared.result.Result.{Result}
 use Rattle.word.specs.Choice.{on, pick}
 use Rattle.state.specs.declared.Reason.{Reason}
 use Rattle.state.specs.declared.Reason.TheVariants.{Halted, Spent, Paper}
 use Rattle.state.specs.declared.Refusal.{Refusal}
 use Rattle.state.specs.declared.Refusal.TheVariants.{MemoryLength, Word, Register, Budget, RowList}
-use Rattle.state.specs.declared.Verdict.{Verdict}
-use Rattle.state.specs.declared.Verdict.TheVariants.{Fit, Unfit}
 
 -- "11 memory isn't 4,096 words; 12 a word above 4,095; 13 a register value wider than its register, ..; 14 budget above 1,000,000;
 -- 15 (evaluator) row list shorter than 128 places"
@@ -40,7 +39,11 @@ reason_number Halted = 1
 reason_number Spent = 2
 reason_number Paper = 3
 
+-- what a check finds: nothing, or the refusal
+abbrev pub Verdict : Type 0
+Verdict = Result ⊤ Refusal
+
 -- "in this order": the first refusal counts
 abbrev pub or_else : Verdict → Verdict → Verdict
-or_else Fit later = later
-or_else (Unfit why) later = Unfit why
+or_else (Ok fit) later = later
+or_else (Err why) later = Err why

@@ -6,6 +6,8 @@ ghost use Rattle.text_fields.specs.Fields.{before, after, field, has_fields};
 
 use characters::{Class, TAB};
 
+pub mod by_line;
+
 // What stands before the first byte b.
 pub fn part_before(s: &[u8], b: u8) -> &[u8]
     ensures { result.now ≡ before b s.now }
@@ -27,11 +29,9 @@ pub fn field_of(line: &[u8], n: usize) -> &[u8]
     ensures { result.now ≡ field n line.now }
 {
     let mut rest = line;
-    let mut i = n;
-    while 0 < i {
+    for _ in 0..n {
         let next = part_after(rest, TAB);
         rest = next;
-        i -= 1;
     }
     part_before(rest, TAB)
 }
@@ -44,13 +44,11 @@ pub fn has_fields(line: &[u8], n: usize) -> bool
         return false;
     }
     let mut rest = line;
-    let mut left = n;
-    while 1 < left {
+    for _ in 1..n {
         let end = characters::run_end(rest, 0, Class::Other(TAB));
         if (0 < end) & (end < rest.len()) {
             let next = part_after(rest, TAB);
             rest = next;
-            left -= 1;
         } else {
             return false;
         }

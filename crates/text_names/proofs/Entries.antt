@@ -9,10 +9,12 @@ use native.Mathlib.Nat.{add-zero, zero-add, add-suc, suc-add, sub-zero, sub-add-
 use native.Mathlib.Numerals.{add-one, sub-one}
 use native.Mathlib.Omega.{arith}
 use lib.ListN.{length, get_or, take, drop, set}
+use borrow.Author.Tests.{lt-ltb, le-ltb}
 use lib.Seq.{get_or-set_same, get_or-set_other}
+use Rattle.std.specs.Prelude.{Some, None}
 use Rattle.characters.specs.Characters.{same}
-use Rattle.characters.specs.Named.{Named, find}
-use Rattle.text_names.specs.Dictionaries.{entry_at, entries_from, entries}
+use Rattle.characters.specs.Named.{Named, find, found}
+use Rattle.text_names.specs.Dictionaries.{nothing, named_by, entry_at, entries_from, entries}
 use Rattle.text_names.specs.declared.Dictionary.{Dictionary}
 
 module _ (text : List ℕ) (d : Dictionary) where
@@ -58,39 +60,41 @@ module _ (s text : List ℕ) (d : Dictionary) where
   unfolding find
   later i h t = rw (next_entry text d i (d.count - i) (omega arith), t, find, ← sub-add-eq d.count i 1) (omega arith)
 
-  pub nowhere : (i : ℕ) → d.count ≤ i → i + find s (entries_from text d i (d.count - i)) ≡ i
+  nowhere : (i : ℕ) → d.count ≤ i → i + find s (entries_from text d i (d.count - i)) ≡ i
   unfolding find
   nowhere i h = rw (no_entry_lem text d i (d.count - i) (omega arith)) (omega arith)
+
+  -- the place is entry i's
+  pub found_here : (i : ℕ) → i < d.count → find s (entries text d) ≡ i → found s (entries text d) ≡ Some i
+  found_here i h e = rw (e, lt-ltb i (length (entries text d)) (omega (arith, h, entries_length text d)))
+
+  -- no entry has the name
+  pub found_nowhere : (i : ℕ) → d.count ≤ i → find s (entries text d) ≡ i + find s (entries_from text d i (d.count - i)) → found s (entries text d) ≡ None
+  found_nowhere i h e =
+      rw (le-ltb (find s (entries text d)) (length (entries text d)) (omega (arith, h, e, nowhere i h, entries_length text d)))
 
 -- one entry more: the new dictionary has the old one's entries, and after them the new one
 module _ (text : List ℕ) (d : Dictionary) (start n number : ℕ) where
   abbrev more : Dictionary
-  more = record {
-    count = d.count + 1;
-    starts = set d.starts d.count start;
-    lengths = set d.lengths d.count n;
-    numbers = set d.numbers d.count number;
-  }
+  more = record { count = d.count + 1; names = set d.names d.count (record { start = start; length = n; number = number }) }
 
   abbrev new : Named
   new = record { name = take n (drop start text); number = number }
 
   kept : (i : ℕ) → i ≢ d.count → entry_at text more i ≡ entry_at text d i
-  kept i h =
-      rw (get_or-set_other d.starts d.count i start 0 h, get_or-set_other d.lengths d.count i n 0 h, get_or-set_other d.numbers d.count i number 0 h)
+  kept i h = ap (named_by text) (get_or-set_other d.names d.count i (record { start = start; length = n; number = number }) nothing h)
 
-  put : (i : ℕ) → i ≡ d.count → d.count < length d.starts → d.count < length d.lengths → d.count < length d.numbers → entry_at text more i ≡ new
-  put i e hs hl hn =
-      rw (e, get_or-set_same d.starts d.count start 0 hs, get_or-set_same d.lengths d.count n 0 hl, get_or-set_same d.numbers d.count number 0 hn)
+  put : (i : ℕ) → i ≡ d.count → d.count < length d.names → entry_at text more i ≡ new
+  put i e h = ap (entry_at text more) e ∙ ap (named_by text) (get_or-set_same d.names d.count (record { start = start; length = n; number = number }) nothing h)
 
-  from : d.count < length d.starts → d.count < length d.lengths → d.count < length d.numbers → (m i : ℕ) → i + m ≡ d.count
+  from : d.count < length d.names → (m i : ℕ) → i + m ≡ d.count
       → entries_from text more i (suc m) ≡ entries_from text d i m ++ (new ∷ [])
   unfolding entries_from
-  from hs hl hn zero i e = ap (λ (z : Named). z ∷ []) (put i (omega arith) hs hl hn)
-  from hs hl hn (suc m) i e =
+  from h zero i e = ap (λ (z : Named). z ∷ []) (put i (omega arith) h)
+  from h (suc m) i e =
       ap (λ (z : Named). z ∷ entries_from text more (suc i) (suc m)) (kept i (omega arith))
-      ∙ ap (λ (l : List Named). entry_at text d i ∷ l) (from hs hl hn m (suc i) (omega arith))
+      ∙ ap (λ (l : List Named). entry_at text d i ∷ l) (from h m (suc i) (omega arith))
 
-  pub one_more : d.count < length d.starts → d.count < length d.lengths → d.count < length d.numbers
+  pub one_more : d.count < length d.names
       → entries text more ≡ entries text d ++ (new ∷ [])
-  one_more hs hl hn = ap (λ (k : ℕ). entries_from text more 0 k) (add-one d.count) ∙ from hs hl hn d.count 0 (zero-add d.count)
+  one_more h = ap (λ (k : ℕ). entries_from text more 0 k) (add-one d.count) ∙ from h d.count 0 (zero-add d.count)

@@ -3,10 +3,23 @@
 use Rattle.std.specs.Prelude.{ℕ, zero, suc, ◌+◌, ◌≡◌, List, [], ◌∷◌, ◌++◌, get_or, take, drop, replicate}
 use Rattle.characters.specs.Named.{Named}
 use Rattle.text_names.specs.declared.Dictionary.{Dictionary}
+use Rattle.text_names.specs.declared.NamedPlace.{NamedPlace}
+
+-- what stands where no name is
+abbrev pub nothing : NamedPlace
+nothing = record { start = 0; length = 0; number = 0 }
+
+-- the number kept with entry i of a dictionary
+abbrev pub number_at : Dictionary → ℕ → ℕ
+number_at d i = (get_or d.names i nothing).number
+
+-- a name by its place in a text
+abbrev pub named_by : List ℕ → NamedPlace → Named
+named_by text p = record { name = take p.length (drop p.start text); number = p.number }
 
 -- entry i of a dictionary
 abbrev pub entry_at : List ℕ → Dictionary → ℕ → Named
-entry_at text d i = record { name = take (get_or d.lengths i 0) (drop (get_or d.starts i 0) text); number = get_or d.numbers i 0 }
+entry_at text d i = named_by text (get_or d.names i nothing)
 
 -- n entries from i on
 unfoldable pub entries_from : List ℕ → Dictionary → ℕ → ℕ → List Named
@@ -23,7 +36,7 @@ places = 32
 
 -- the dictionary without names
 abbrev pub none : Dictionary
-none = record { count = 0; starts = replicate places 0; lengths = replicate places 0; numbers = replicate places 0 }
+none = record { count = 0; names = replicate places nothing }
 
 -- a dictionary r that has one name more than d, that of n bytes at a start, whatever the text is
 pub record Added (d : Dictionary) (start n number : ℕ) (r : Dictionary) : Type 0 where

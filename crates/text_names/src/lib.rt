@@ -2,8 +2,8 @@
 #![tactic(auto)]
 
 ghost use Rattle.std.specs.Prelude.{◌≡◌, get_or, ◌+◌, ◌<◌};
-ghost use Rattle.characters.specs.Named.{find};
-ghost use Rattle.text_names.specs.Dictionaries.{places, entries, none, Added};
+ghost use Rattle.characters.specs.Named.{found};
+ghost use Rattle.text_names.specs.Dictionaries.{places, nothing, number_at, entries, none, Added};
 ghost use Rattle.text_names.specs.Names.{is_name};
 
 use characters::Class;
@@ -14,13 +14,26 @@ const LONGEST_NAME: usize = 20;
 // How many names a dictionary can hold.
 pub const PLACES: usize = 32;
 
-// The places of names in a text, with a number for each.
+// A name in a text: where it starts, how many bytes it has, and a number kept with it.
+#[derive(Clone, Copy)]
+pub struct NamedPlace {
+    pub start: u16,
+    pub length: u16,
+    pub number: u16,
+}
+
+// What stands where no name is.
+const NOTHING: NamedPlace = NamedPlace {
+    start: 0,
+    length: 0,
+    number: 0,
+};
+
+// Names in a text: so many first ones of the places.
 #[derive(Clone, Copy)]
 pub struct Dictionary {
     pub count: usize,
-    pub starts: [u16; PLACES],
-    pub lengths: [u16; PLACES],
-    pub numbers: [u16; PLACES],
+    pub names: [NamedPlace; PLACES],
 }
 
 // Whether a byte string is a name.
@@ -37,9 +50,7 @@ pub fn empty() -> Dictionary
 {
     Dictionary {
         count: 0,
-        starts: [0; PLACES],
-        lengths: [0; PLACES],
-        numbers: [0; PLACES],
+        names: [NOTHING; PLACES],
     }
 }
 
@@ -49,42 +60,39 @@ pub fn with_name(d: Dictionary, start: u16, length: u16, number: u16) -> Diction
     ensures { Added d start length number result }
 {
     let mut r = d;
-    let i = r.count;
-    r.starts[i] = start;
-    r.lengths[i] = length;
-    r.numbers[i] = number;
-    r.count = i + 1;
+    r.names[d.count] = NamedPlace {
+        start,
+        length,
+        number,
+    };
+    r.count = d.count + 1;
     r
 }
 
-// Entry i of a table, 0 past its end.
-fn slot(table: [u16; PLACES], i: usize) -> u16
-    ensures { result ≡ get_or table i 0 }
+// Entry i of a dictionary, nothing past its places.
+fn entry(d: &Dictionary, i: usize) -> NamedPlace
+    ensures { result ≡ get_or d.now.names i nothing }
 {
-    if i < PLACES { table[i] } else { 0 }
+    d.names.get(i).copied().unwrap_or(NOTHING)
 }
 
 // The number kept with entry i of a dictionary.
 pub fn number_of(d: Dictionary, i: usize) -> u16
-    ensures { result ≡ get_or d.numbers i 0 }
+    ensures { result ≡ number_at d i }
 {
-    let numbers = d.numbers;
-    slot(numbers, i)
+    entry(&d, i).number
 }
 
-// The place of a name in a dictionary, the number of its names if it isn't there.
-pub fn place_of(text: &[u8], d: Dictionary, name: &[u8]) -> usize
-    ensures { result ≡ find name.now (entries text.now d) }
+// The place of a name in a dictionary.
+pub fn place_of(text: &[u8], d: Dictionary, name: &[u8]) -> Option<usize>
+    ensures { result ≡ found name.now (entries text.now d) }
 {
-    let starts = d.starts;
-    let lengths = d.lengths;
-    let mut i = 0;
-    while i < d.count {
-        let found = characters::part(text, slot(starts, i) as usize, slot(lengths, i) as usize);
+    for i in 0..d.count {
+        let it = entry(&d, i);
+        let found = characters::part(text, it.start as usize, it.length as usize);
         if characters::is_same(found, name) {
-            return i;
+            return Some(i);
         }
-        i += 1;
     }
-    i
+    None
 }

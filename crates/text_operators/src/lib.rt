@@ -104,39 +104,31 @@ const TABLE: [Entry; OPERATORS] = [
     },
 ];
 
+// What stands past the table: an entry of no strength.
+const NO_ENTRY: Entry = Entry {
+    operator: Operator::Or,
+    strength: 0,
+    widths: Widths::Wider,
+};
+
 // A row of the table; past it an entry of no strength.
 pub fn entry_in(row: usize) -> Entry
     ensures { result ≡ entry_in row }
 {
-    if row < OPERATORS {
-        TABLE[row]
-    } else {
-        Entry {
-            operator: Operator::Or,
-            strength: 0,
-            widths: Widths::Wider,
-        }
-    }
-}
-
-// The wider of two widths.
-fn wider_of(left: u16, right: u16) -> u16
-    ensures { result ≡ max left right }
-{
-    if left <= right { right } else { left }
+    TABLE.get(row).copied().unwrap_or(NO_ENTRY)
 }
 
 // The width of an operator's value.
 pub fn width_by(widths: Widths, left: u16, right: u16) -> u16
-    requires fact_1 { left ≤ widest }
-    requires fact_2 { right ≤ widest }
+    requires left { left ≤ widest }
+    requires right { right ≤ widest }
     ensures { result ≡ width_by widths left right }
 {
     match widths {
         Widths::Left => left,
         Widths::Sum => left + right,
-        Widths::Carry => wider_of(left, right) + 1,
+        Widths::Carry => left.max(right) + 1,
         Widths::One => 1,
-        Widths::Wider => wider_of(left, right),
+        Widths::Wider => left.max(right),
     }
 }

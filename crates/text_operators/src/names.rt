@@ -1,60 +1,38 @@
 // The names of the operators, and the names that no register may take.
-ghost use Rattle.std.specs.Prelude.{◌≡◌, drop, ◌+◌};
-ghost use Rattle.text_operators.specs.OperatorNames.{operator_names, find_in, operator_row, is_reserved};
+ghost use Rattle.std.specs.Prelude.{◌≡◌, map, position};
+ghost use Rattle.characters.specs.Characters.{same};
+ghost use Rattle.text_operators.specs.OperatorNames.{find_in, operator_row, is_reserved};
 
 use crate::OPERATORS;
 
-// The row of a token that names none of the first seven operators.
-fn row_from_7(token: &[u8]) -> usize
-    ensures { result ≡ 7 + find_in (drop 7 operator_names) token.now }
+// The operators' names, in the order of their table.
+const NAMES: [&[u8]; OPERATORS] = [
+    b"Not", b"@", b"Slr", b"Srr", b"+", b"Eql", b"Neq", b"Lss", b"And", b"Or",
+];
+
+// Where a list of names has a token.
+fn position_of(names: &[&[u8]], token: &[u8]) -> Option<usize>
+    ensures { result ≡ position (λ n. same token.now n.now) names.now }
 {
-    if characters::is_same(token, b"Lss") {
-        return 7;
-    }
-    if characters::is_same(token, b"And") {
-        return 8;
-    }
-    if characters::is_same(token, b"Or") {
-        9
-    } else {
-        // the row of none
-        OPERATORS
-    }
+    names
+        .iter()
+        .position(|name| characters::is_same(token, name))
 }
 
-// The row of a token that names none of the first four operators.
-fn row_from_4(token: &[u8]) -> usize
-    ensures { result ≡ 4 + find_in (drop 4 operator_names) token.now }
+// The place of a token in a list of names, the list's length where it is none of them.
+fn place_in(names: &[&[u8]], token: &[u8]) -> usize
+    ensures { result ≡ find_in (map (λ n. n.now) names.now) token.now }
 {
-    if characters::is_same(token, b"+") {
-        return 4;
-    }
-    if characters::is_same(token, b"Eql") {
-        return 5;
-    }
-    if characters::is_same(token, b"Neq") {
-        return 6;
-    }
-    row_from_7(token)
+    position_of(names, token).unwrap_or(names.len())
 }
 
 // The row of the operator that a token names, the row past the last if it names none.
+// An Option is no plainer: `entry_in` has an entry of strength 0 for that row, so the grammar asks for the strength alone, where an Option asks twice.
+#[tactic(auto, unfolding(crate::specs::OperatorNames::operator_row))]
 pub fn operator_row(token: &[u8]) -> usize
     ensures { result ≡ operator_row token.now }
 {
-    if characters::is_same(token, b"Not") {
-        return 0;
-    }
-    if characters::is_same(token, b"@") {
-        return 1;
-    }
-    if characters::is_same(token, b"Slr") {
-        return 2;
-    }
-    if characters::is_same(token, b"Srr") {
-        return 3;
-    }
-    row_from_4(token)
+    place_in(&NAMES, token)
 }
 
 // Whether a name is reserved.

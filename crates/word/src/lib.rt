@@ -2,6 +2,7 @@
 #![tactic(auto)]
 
 ghost use Rattle.std.specs.Prelude.{◌≡◌, ◌^◌, ◌≤◌};
+ghost use Rattle.word.specs.Choice.{pick};
 ghost use Rattle.word.specs.Word.{widest, fits, next};
 
 // The number of a word's values.
@@ -21,6 +22,13 @@ pub fn is_narrow(w: u64, x: u64) -> bool
     ensures { result ≡ fits w x }
 {
     x < power(w)
+}
+
+// The first value where the test holds, else the second.
+pub fn pick<T: Copy>(test: bool, a: T, b: T) -> T
+    ensures { result ≡ pick test a b }
+{
+    if test { a } else { b }
 }
 
 // The word after x, modulo 4,096: the one increment of words and of PC.

@@ -1,28 +1,15 @@
--- `desk_registers::place_of`: register by register.
-use mathlib.Core.Path.{◌≡◌, sym, ap, ◌∙◌}
-use mathlib.Core.List.{List}
-use Prim.Native.Nat.{ℕ}
-use native.Mathlib.Nat.{zero-add}
-use lib.ListN.{get_or}
-use Rattle.characters.specs.Characters.{same}
-use Rattle.characters.specs.Named.{Named, find}
-use Rattle.desk_registers.specs.Registers.{desk_registers}
-use Rattle.machine_state.specs.Table.{nameless}
-use Rattle.machine_state.proofs.Places.{here, later, nowhere}
+-- `desk_registers::place_of`: among the machine's registers, or behind them among the devices'.
+use Rattle.std.proofs.Common.{rules}
+use Rattle.characters.proofs.Searches.{found_in_first, found_in_second, found_in_none}
+use Rattle.devices.specs.Devices.{device_registers}
+use Rattle.machine_state.specs.Registers.{machine_registers}
 use Rattle.desk_registers.proofs.place_of.Goals as goal
 
-pub loop-k-init : goal.loop-k-init
-loop-k-init c = sym (zero-add (find c.args.name.now desk_registers))
+pub returns-in-Some : goal.returns-in-Some
+returns-in-Some c = search (rules, found_in_first c.args.name.now device_registers machine_registers)
 
-pub returns-then-is_same : goal.returns-then-is_same
-returns-then-is_same c =
-    let told : same (get_or desk_registers c.loop-k.k nameless).name c.args.name.now ≡ c.is_same.result = sym (c.is_same.ensures ∙ ap (λ (s : List ℕ). same s c.args.name.now) (c.part.ensures ∙ ap (λ (r : Named). r.name) c.register_at-register.ensures)) in
-    sym (c.loop-k.invariant ∙ here c.args.name.now desk_registers nameless c.loop-k.k c.loop-k-test.true (told ∙ c.if-is_same.true))
-
-pub loop-k-preserved : goal.loop-k-preserved
-loop-k-preserved c =
-    let told : same (get_or desk_registers c.loop-k.k nameless).name c.args.name.now ≡ c.is_same.result = sym (c.is_same.ensures ∙ ap (λ (s : List ℕ). same s c.args.name.now) (c.part.ensures ∙ ap (λ (r : Named). r.name) c.register_at-register.ensures)) in
-    c.loop-k.invariant ∙ later c.args.name.now desk_registers nameless c.loop-k.k c.loop-k-test.true (told ∙ c.if-is_same.false)
+pub returns-in_err-place : goal.returns-in_err-place
+returns-in_err-place c = search (rules, found_in_none c.args.name.now device_registers machine_registers)
 
 pub returns : goal.returns
-returns c = sym (c.loop-k.invariant ∙ nowhere c.args.name.now desk_registers nameless c.loop-k.k c.loop-k-test.false)
+returns c = search (rules, found_in_second c.args.name.now device_registers machine_registers)

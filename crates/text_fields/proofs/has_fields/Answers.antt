@@ -1,8 +1,8 @@
 -- `text_fields::has_fields`: field by field.
-use mathlib.Core.Path.{◌≡◌, refl, sym, ap, ◌∙◌}
+use mathlib.Core.Path.{◌≡◌, sym, ap, ◌∙◌}
 use mathlib.Core.Bool.{◌&&◌}
 use mathlib.Core.List.{List}
-use Prim.Native.Nat.{ℕ, ◌-◌}
+use Prim.Native.Nat.{ℕ, ◌+◌, ◌-◌}
 use native.Mathlib.Omega.{arith}
 use lib.Dec.{eqb, ltb}
 use lib.ListN.{length}
@@ -12,7 +12,6 @@ use Rattle.characters.specs.Ascii.{tab}
 use Rattle.text_fields.specs.Fields.{until, has_fields}
 use Rattle.characters.proofs.Runs.{from_start}
 use Rattle.text_fields.proofs.Lines.{more_fields, few_fields, last_field}
-use borrow.Author.Rules.{rules}
 use Rattle.text_fields.proofs.has_fields.Goals as goal
 
 -- a field's end, as the code finds it
@@ -23,16 +22,15 @@ pub returns-then-n-eq0 : goal.returns-then-n-eq0
 unfolding has_fields
 returns-then-n-eq0 c = rw c.if-n-eq0.true
 
-pub loop-left-init : goal.loop-left-init
-loop-left-init c = (search rules, refl)
-
-pub loop-left-preserved : goal.loop-left-preserved
-loop-left-preserved c = let more = more_fields c.loop-left.left c.loop-left.rest.now c.loop-left-test.true (rw (ends c.loop-left.rest.now c.run_end-end.result c.run_end-end.ensures) at c.if-end-rest.true) in
-    (omega arith, c.loop-left.invariant.1 ∙ more ∙ ap (has_fields (c.loop-left.left - 1)) (sym c.part_after-next.ensures))
+pub loop-preserved : goal.loop-preserved
+loop-preserved c =
+    let left : c.args.n + 1 - c.loop.counter - 1 ≡ c.args.n + 1 - (c.loop.counter + 1) = omega arith in
+    let more = more_fields (c.args.n + 1 - c.loop.counter) c.loop.rest.now (omega (arith, c.loop-test.true)) (rw (ends c.loop.rest.now c.run_end-end.result c.run_end-end.ensures) at c.if-end-rest.true) in
+    c.loop.invariant ∙ more ∙ rw left (ap (has_fields (c.args.n + 1 - (c.loop.counter + 1))) (sym c.part_after-next.ensures))
 
 pub returns-else-end-rest : goal.returns-else-end-rest
-returns-else-end-rest c = sym (c.loop-left.invariant.1 ∙ few_fields c.loop-left.left c.loop-left.rest.now c.loop-left-test.true (rw (ends c.loop-left.rest.now c.run_end-end.result c.run_end-end.ensures) at c.if-end-rest.false))
+returns-else-end-rest c = sym (c.loop.invariant ∙ few_fields (c.args.n + 1 - c.loop.counter) c.loop.rest.now (omega (arith, c.loop-test.true)) (rw (ends c.loop.rest.now c.run_end-end.result c.run_end-end.ensures) at c.if-end-rest.false))
 
 pub returns : goal.returns
-returns c = let end = ends c.loop-left.rest.now c.run_end-end-2.result c.run_end-end-2.ensures in
-    sym (c.loop-left.invariant.1 ∙ last_field c.loop-left.left c.loop-left.rest.now (omega arith) ∙ ap (λ (e : ℕ). ltb 0 e && eqb e (length c.loop-left.rest.now)) (sym end))
+returns c = let end = ends c.loop.rest.now c.run_end-end-2.result c.run_end-end-2.ensures in
+    sym (c.loop.invariant ∙ last_field (c.args.n + 1 - c.loop.counter) c.loop.rest.now (omega (arith, c.loop-test.false, c.loop.auto, c.if-n-eq0.false)) ∙ ap (λ (e : ℕ). ltb 0 e && eqb e (length c.loop.rest.now)) (sym end))

@@ -7,6 +7,3 @@ use Rattle.text_names.proofs.place_of.Given as goal
 
 abbrev pub invariant-loop-i : goal.invariant-loop-i
 invariant-loop-i l = (find l.name (entries l.text l.d) ≡ l.i + find l.name (entries_from l.text l.d l.i (l.d.count - l.i)))
-
-abbrev pub decreases-loop-i : goal.decreases-loop-i
-decreases-loop-i l = l.d.count - l.i

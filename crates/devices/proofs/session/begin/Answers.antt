@@ -16,7 +16,7 @@ bounds-input-read c = let h = ltb-true c.args.read _ (and_right (eqb c.args.c.ke
 
 pub returns-then-c-read : goal.returns-then-c-read
 returns-then-c-read c = begun_new c.args.c c.rise.result c.args.input.now c.args.read c.if-c-read.true
-    (c.rise.ensures ∙ ap (λ (b : ℕ). risen (with_key b 1 c.args.c)) c.wide.ensures)
+    (c.rise.ensures ∙ ap (λ (b : ℕ). risen (with_key b 1 c.args.c)) (search rules))
 
 pub returns : goal.returns
 returns c = begun_still c.args.c c.rise-2.result c.args.input.now c.args.read c.if-c-read.false c.requires c.rise-2.ensures

@@ -8,18 +8,18 @@ use Rattle.machine_console.proofs.run.run_devices.Goals as goal
 pub loop-b-init : goal.loop-b-init
 loop-b-init c = (
   kept_first (at c.args.p c.args.memory.now) c.args.c c.args.budget c.args.input.now c.args.output.now
-      c.requires.fact_1 c.requires.fact_2 (record { each = λ k. omega (arith, c.shared_slice_known-1.given k) }),
-  c.requires.fact_1.memory.size,
+      c.requires.good c.requires.fit (record { each = λ k. omega (arith, c.shared_slice_known-1.given k) }),
+  c.requires.good.memory.size,
 )
 
 pub begin-b-requires : goal.begin-b-requires
 begin-b-requires c = c.loop-b.invariant.0.most_read
 
 pub work-w-requires : goal.work-w-requires
-work-w-requires c = record { fact_1 = c.loop-b.invariant.0.fits.engine.state; fact_2 = begun_kept c.loop-b.invariant.0 c.goes_on.ensures c.loop-b-test.true c.begin-b.ensures; fact_3 = steps_left c.loop-b.invariant.0 c.goes_on.ensures c.loop-b-test.true c.begin-b.ensures }
+work-w-requires c = record { good = c.loop-b.invariant.0.fits.engine.state; fit = begun_kept c.loop-b.invariant.0 c.goes_on.ensures c.loop-b-test.true c.begin-b.ensures; left = steps_left c.loop-b.invariant.0 c.goes_on.ensures c.loop-b-test.true c.begin-b.ensures }
 
 pub print-printed-requires : goal.print-printed-requires
-print-printed-requires c = record { fact_1 = place_left_lem c.loop-b.invariant.0 c.goes_on.ensures c.loop-b-test.true c.begin-b.ensures; fact_2 = byte_fits c.loop-b.invariant.0 c.goes_on.ensures c.loop-b-test.true c.begin-b.ensures c.work-w.ensures }
+print-printed-requires c = record { room = place_left_lem c.loop-b.invariant.0 c.goes_on.ensures c.loop-b-test.true c.begin-b.ensures; byte = byte_fits c.loop-b.invariant.0 c.goes_on.ensures c.loop-b-test.true c.begin-b.ensures c.work-w.ensures }
 
 pub loop-b-smaller : goal.loop-b-smaller
 loop-b-smaller c = let more = work_grows c.loop-b.invariant.0 c.goes_on.ensures c.loop-b-test.true c.begin-b.ensures c.work-w.ensures in
@@ -31,7 +31,7 @@ loop-b-preserved c = let again = kept_again c.loop-b.invariant.0 c.goes_on.ensur
     (again, again.fits.engine.state.memory.size)
 
 pub shape_of-memory : goal.shape_of-memory
-shape_of-memory c = c.loop-b.invariant.1 ∙ sym c.requires.fact_1.memory.size
+shape_of-memory c = c.loop-b.invariant.1 ∙ sym c.requires.good.memory.size
 
 pub shape_of-output : goal.shape_of-output
 shape_of-output c = c.loop-b.invariant.0.printing.size

@@ -12,11 +12,11 @@ use Rattle.machine_operate.proofs.Changes.{cleared_lt, link_cleared_lt, compleme
 use Rattle.machine_operate.proofs.groups.first_group.Goals as goal
 
 pub increase_and_rotate-requires : goal.increase_and_rotate-requires
-increase_and_rotate-requires c = rw c.change.ensures (link_complemented_lt c.args.i (complemented_lt c.args.i (link_cleared_lt c.args.i (cleared_lt c.args.i c.requires.fact_1.lac))))
+increase_and_rotate-requires c = rw c.change.ensures (link_complemented_lt c.args.i (complemented_lt c.args.i (link_cleared_lt c.args.i (cleared_lt c.args.i c.requires.good.lac))))
 
 pub returns : goal.returns
 unfolding operate group1 changed
 returns c = let s = at c.args.p c.args.memory.now in
     c.interrupt_test.ensures
     ∙ ap (λ (x : ℕ). interrupt_test (with_lac x s)) (c.increase_and_rotate.ensures ∙ ap (λ (x : ℕ). rotated c.args.i (increased c.args.i x)) c.change.ensures)
-    ∙ ap interrupt_test (sym (case_false (on (flag 3 c.args.i)) _ (group1 c.args.i s) (ap on c.requires.fact_2)))
+    ∙ ap interrupt_test (sym (case_false (on (flag 3 c.args.i)) _ (group1 c.args.i s) (ap on c.requires.first)))

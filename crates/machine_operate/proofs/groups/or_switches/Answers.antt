@@ -10,7 +10,7 @@ pub overflow_add-result : goal.overflow_add-result
 overflow_add-result c = let h = or_lt 12 (c.args.lac % 4096) c.args.switches (omega arith) (omega arith) in omega arith
 
 pub returns-then-i-ne0 : goal.returns-then-i-ne0
-returns-then-i-ne0 c = let h = or_lt 12 (c.args.lac % 4096) c.args.switches (omega arith) c.requires.fact_2 in
+returns-then-i-ne0 c = let h = or_lt 12 (c.args.lac % 4096) c.args.switches (omega arith) c.requires.switches in
     simp (ne_eqb _ _ c.if-i-ne0.true, ac_is) (ac_written c.args.lac h)
 
 pub returns-else-i-ne0 : goal.returns-else-i-ne0

@@ -8,8 +8,8 @@ use Rattle.machine_operate.proofs.groups.other_groups.Goals as goal
 
 pub returns-then-i-ne0 : goal.returns-then-i-ne0
 unfolding operate clears_run
-returns-then-i-ne0 c = rw (ap on c.requires.fact_2, ap not (ne_eqb _ _ c.if-i-ne0.true), operate, clears_run) c.third_group.ensures
+returns-then-i-ne0 c = rw (ap on c.requires.other, ap not (ne_eqb _ _ c.if-i-ne0.true), operate, clears_run) c.third_group.ensures
 
 pub returns-else-i-ne0 : goal.returns-else-i-ne0
 unfolding operate clears_run
-returns-else-i-ne0 c = rw (ap on c.requires.fact_2, ap not (eq-eqb _ _ c.if-i-ne0.false), operate, clears_run) c.second_group.ensures
+returns-else-i-ne0 c = rw (ap on c.requires.other, ap not (eq-eqb _ _ c.if-i-ne0.false), operate, clears_run) c.second_group.ensures

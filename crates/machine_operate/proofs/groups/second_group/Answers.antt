@@ -11,7 +11,7 @@ use Rattle.machine_operate.proofs.groups.second_group.Goals as goal
 
 pub interrupt_test-requires : goal.interrupt_test-requires
 interrupt_test-requires c = let pc = skip_lt c.args.i c.args.p.lac c.requires.pc in
-    record { fact_1 = omega (arith, c.requires.memory.size); fact_2 = rw c.skip.ensures pc; fact_3 = c.requires.enable; fact_4 = c.requires.request }
+    record { first_word = omega (arith, c.requires.memory.size); pc = rw c.skip.ensures pc; enable = c.requires.enable; request = c.requires.request }
 
 pub returns-then-i-eq0 : goal.returns-then-i-eq0
 returns-then-i-eq0 c = c.interrupt_test.ensures
@@ -19,7 +19,7 @@ returns-then-i-eq0 c = c.interrupt_test.ensures
     ∙ tested_on c.args.i (group2 c.args.i (at c.args.p c.args.memory.now)) (omega (arith, c.if-i-eq0.true))
 
 pub or_switches-requires : goal.or_switches-requires
-or_switches-requires c = record { fact_1 = rw c.clear-2.ensures (cleared_lt c.args.i c.requires.lac); fact_2 = c.requires.switches }
+or_switches-requires c = record { lac = rw c.clear-2.ensures (cleared_lt c.args.i c.requires.lac); switches = c.requires.switches }
 
 pub returns-then-i-ne0 : goal.returns-then-i-ne0
 returns-then-i-ne0 c = skipped c.args.i (at c.args.p c.args.memory.now) _ _ c.skip.ensures _
@@ -29,7 +29,7 @@ returns-then-i-ne0 c = skipped c.args.i (at c.args.p c.args.memory.now) _ _ c.sk
 
 pub interrupt_test-requires-2 : goal.interrupt_test-requires-2
 interrupt_test-requires-2 c = let pc = skip_lt c.args.i c.args.p.lac c.requires.pc in
-    record { fact_1 = omega (arith, c.requires.memory.size); fact_2 = rw c.skip.ensures pc; fact_3 = c.requires.enable; fact_4 = c.requires.request }
+    record { first_word = omega (arith, c.requires.memory.size); pc = rw c.skip.ensures pc; enable = c.requires.enable; request = c.requires.request }
 
 pub returns : goal.returns
 returns c = c.interrupt_test-2.ensures

@@ -5,7 +5,7 @@ use Rattle.machine_reference.proofs.Addresses.{page_lt, pa_lt}
 use Rattle.machine_reference.proofs.address.first_address.Goals as goal
 
 pub joined-requires : goal.joined-requires
-joined-requires c = record { fact_1 = rw c.page.ensures (page_lt c.args.i c.args.last); fact_2 = rw c.page_address.ensures (pa_lt c.args.i) }
+joined-requires c = record { page = rw c.page.ensures (page_lt c.args.i c.args.last); within = rw c.page_address.ensures (pa_lt c.args.i) }
 
 pub returns : goal.returns
 unfolding first_address

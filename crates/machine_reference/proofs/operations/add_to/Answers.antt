@@ -8,7 +8,7 @@ use native.Mathlib.Omega.{arith}
 use Rattle.machine_reference.proofs.operations.add_to.Goals as goal
 
 pub overflow_add-q : goal.overflow_add-q
-overflow_add-q c = omega (arith, c.requires.fact_1.lac, c.requires.fact_1.memory.words c.args.e, c.load-word.ensures)
+overflow_add-q c = omega (arith, c.requires.lac, c.requires.memory.words c.args.e.number, c.load-word.ensures)
 
 pub returns : goal.returns
 returns c = let s = at c.args.p c.args.memory.now in

@@ -12,7 +12,7 @@ use Rattle.machine_reference.proofs.operations.and_to.Goals as goal
 
 pub overflow_add-q : goal.overflow_add-q
 overflow_add-q c = let h = and_le_l (c.args.p.lac % 4096) c.load-word.result in
-    omega (arith, c.requires.fact_1.lac)
+    omega (arith, c.requires.lac)
 
 pub returns : goal.returns
 returns c = let s = at c.args.p c.args.memory.now in

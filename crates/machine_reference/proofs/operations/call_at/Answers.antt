@@ -11,4 +11,4 @@ pub returns : goal.returns
 returns c = let s = at c.args.p c.args.memory.now in
     c.interrupt_test.ensures
     ∙ ap (λ (m : List ℕ). interrupt_test (with_pc c.increment.result (with_memory m s))) c.store.ensures
-    ∙ ap (λ (n : ℕ). interrupt_test (with_pc n (stored c.args.e s.pc s))) c.increment.ensures
+    ∙ ap (λ (n : ℕ). interrupt_test (with_pc n (stored c.args.e.number s.pc s))) c.increment.ensures

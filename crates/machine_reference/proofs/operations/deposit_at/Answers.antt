@@ -12,4 +12,4 @@ pub returns : goal.returns
 returns c = let s = at c.args.p c.args.memory.now in
     c.interrupt_test.ensures
     ∙ ap (λ (m : List ℕ). interrupt_test (with_lac (s.lac / 4096 * 4096) (with_memory m s))) c.store.ensures
-    ∙ ap₂ (λ (l a : ℕ). interrupt_test (with_lac l (stored c.args.e a s))) (ac_cleared s.lac) (sym (ac_is s.lac))
+    ∙ ap₂ (λ (l a : ℕ). interrupt_test (with_lac l (stored c.args.e.number a s))) (ac_cleared s.lac) (sym (ac_is s.lac))

@@ -14,12 +14,12 @@ returns-then-word-ne0 c = let s = at c.args.p c.args.memory.now in
     let increased = c.increment-word.ensures ∙ ap next c.load.ensures in
     c.interrupt_test.ensures
     ∙ ap (λ (m : List ℕ). interrupt_test (with_memory m s)) c.store.ensures
-    ∙ ap interrupt_test (isz_stays c.args.e _ s increased c.if-word-ne0.true)
+    ∙ ap interrupt_test (isz_stays c.args.e.number _ s increased c.if-word-ne0.true)
 
 pub returns : goal.returns
 returns c = let s = at c.args.p c.args.memory.now in
     let increased = c.increment-word.ensures ∙ ap next c.load.ensures in
     c.interrupt_test-2.ensures
     ∙ ap (λ (m : List ℕ). interrupt_test (with_pc c.increment.result (with_memory m s))) c.store.ensures
-    ∙ ap (λ (n : ℕ). interrupt_test (with_pc n (stored c.args.e c.increment-word.result s))) c.increment.ensures
-    ∙ ap interrupt_test (isz_skips c.args.e _ s increased c.if-word-ne0.false)
+    ∙ ap (λ (n : ℕ). interrupt_test (with_pc n (stored c.args.e.number c.increment-word.result s))) c.increment.ensures
+    ∙ ap interrupt_test (isz_skips c.args.e.number _ s increased c.if-word-ne0.false)

@@ -11,10 +11,10 @@ use Rattle.machine_run.proofs.Ready.{good_ready, ready_run, ready_size, moving_g
 use Rattle.machine_run.proofs.run.stretch.Goals as goal
 
 pub bound-end-requires : goal.bound-end-requires
-bound-end-requires c = c.requires.fact_1.run
+bound-end-requires c = c.requires.good.run
 
 pub loop-steps-init : goal.loop-steps-init
-loop-steps-init c = (c.requires.fact_2, good_ready c.requires.fact_1, refl, c.bound-end.ensures, c.requires.fact_1.memory.size)
+loop-steps-init c = (c.requires.done, good_ready c.requires.good, refl, c.bound-end.ensures, c.requires.good.memory.size)
 
 pub step-q-requires : goal.step-q-requires
 step-q-requires c = let below = below_bound _ _ _ (running (at c.loop-steps.q c.loop-steps.memory)) c.loop-steps.invariant.3 c.loop-steps-test.true in
@@ -47,7 +47,7 @@ loop-steps-preserved c = let s = at c.loop-steps.q c.loop-steps.memory in
     )
 
 pub shape_of-memory : goal.shape_of-memory
-shape_of-memory c = c.loop-steps.invariant.4 ∙ sym c.requires.fact_1.memory.size
+shape_of-memory c = c.loop-steps.invariant.4 ∙ sym c.requires.good.memory.size
 
 pub returns : goal.returns
 returns c = sym (c.loop-steps.invariant.2 ∙ run_bound running (advance c.args.devices) c.args.limit c.loop-steps.steps _ (at c.loop-steps.q c.loop-steps.memory) c.loop-steps.invariant.3 c.loop-steps-test.false)

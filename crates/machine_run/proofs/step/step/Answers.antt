@@ -7,13 +7,13 @@ use Rattle.machine_run.proofs.Steps.{op_of, bit_3_of, op_left, counted_good, op_
 use Rattle.machine_run.proofs.step.step.Goals as goal
 
 pub first_group-requires : goal.first_group-requires
-first_group-requires c = record { fact_1 = counted_good (at c.args.p c.args.memory.now) _ c.increment.ensures c.requires; fact_2 = bit_3_of _ 14 c.in-14.is }
+first_group-requires c = record { good = counted_good (at c.args.p c.args.memory.now) _ c.increment.ensures c.requires; first = bit_3_of _ 14 c.in-14.is }
 
 pub other_groups-requires : goal.other_groups-requires
-other_groups-requires c = record { fact_1 = counted_good (at c.args.p c.args.memory.now) _ c.increment.ensures c.requires; fact_2 = bit_3_of _ 15 c.in-15.is }
+other_groups-requires c = record { good = counted_good (at c.args.p c.args.memory.now) _ c.increment.ensures c.requires; other = bit_3_of _ 15 c.in-15.is }
 
 pub refer-requires : goal.refer-requires
-refer-requires c = record { fact_1 = counted_good (at c.args.p c.args.memory.now) _ c.increment.ensures c.requires; fact_2 = rw c.load-i.ensures (c.requires.memory.words c.args.p.pc); fact_3 = c.requires.pc; fact_4 = op_left _ c.in_default.in_default-own.rest }
+refer-requires c = record { good = counted_good (at c.args.p c.args.memory.now) _ c.increment.ensures c.requires; instruction = rw c.load-i.ensures (c.requires.memory.words c.args.p.pc); last = c.requires.pc; op = op_left _ c.in_default.in_default-own.rest }
 
 pub returns-in-12 : goal.returns-in-12
 returns-in-12 c = let s = at c.args.p c.args.memory.now in

@@ -13,9 +13,9 @@ pub returns-then-p-ne0 : goal.returns-then-p-ne0
 unfolding interrupt_test
 returns-then-p-ne0 c = let s = at c.args.p c.args.memory.now in
     ap (λ (m : List ℕ). with_enable 0 (with_pc 1 (with_memory m s))) c.store.ensures
-    ∙ sym (case_true (takes_interrupt s) (interrupted s) s (served c.requires.fact_3 c.requires.fact_4 c.if-p-ne0.true))
+    ∙ sym (case_true (takes_interrupt s) (interrupted s) s (served c.requires.enable c.requires.request c.if-p-ne0.true))
 
 pub returns-else-p-ne0 : goal.returns-else-p-ne0
 unfolding interrupt_test
 returns-else-p-ne0 c = let s = at c.args.p c.args.memory.now in
-    sym (case_false (takes_interrupt s) (interrupted s) s (unserved c.requires.fact_3 c.requires.fact_4 c.if-p-ne0.false))
+    sym (case_false (takes_interrupt s) (interrupted s) s (unserved c.requires.enable c.requires.request c.if-p-ne0.false))

@@ -1,7 +1,7 @@
 -- Whatever is read ends after its start and within the field; a register that is read is one of the list, and bit numbers are below its width.
 -- Assumes nothing.
 use mathlib.Core.Path.{◌≡◌, refl, sym, ap, subst, ◌∙◌}
-use mathlib.Core.Bool.{true, false, false≢true, ◌&&◌}
+use mathlib.Core.Bool.{true, false≢true, ◌&&◌}
 use mathlib.Core.List.{List}
 use Prim.Native.Nat.{ℕ, ◌+◌, ◌-◌, ◌≤◌, ◌<◌}
 use native.Mathlib.Omega.{arith}
@@ -9,20 +9,19 @@ use lib.Dec.{eqb, leb, ltb}
 use lib.ListN.{length, get_or, drop_of_length-le, get_or-eq_default}
 use lib.Seq.{take-nil}
 use borrow.Author.Tests.{ltb-true, ltb-false, leb-true, eqb-true}
+use Rattle.std.specs.Prelude.{Option, Some, None}
 use Rattle.characters.specs.Characters.{is_letter, is_word, run_end, same}
 use Rattle.text_constants.specs.Constants.{decimal_at}
 use Rattle.characters.specs.Named.{Named, find}
 use Rattle.characters.specs.declared.Class.TheVariants.{Space, Word}
 use Rattle.text_constants.specs.declared.Number.{Number}
-use Rattle.text_constants.specs.declared.Number.TheVariants.{Plain, Unread}
 use Rattle.characters.proofs.Runs.{onward, within, run_onward}
 use Rattle.laws.proofs.Joined.{and_left, and_right}
 use Rattle.laws.proofs.Tests.{by_test, by_case}
 use Rattle.text_constants.proofs.Places.{Past, NumberPast, decimal_past}
 use Rattle.text_bit_parts.specs.declared.Span.{Span}
-use Rattle.text_bit_parts.specs.declared.Span.TheVariants.{Bits, Bad}
 use Rattle.text_bit_parts.specs.declared.Reference.{Reference}
-use Rattle.text_bit_parts.specs.declared.Reference.TheVariants.{Whole, Part, Unknown}
+use Rattle.text_bit_parts.specs.declared.Reference.TheVariants.{Whole, Part}
 use Rattle.text_operators.specs.Operators.{table, entry_in}
 use Rattle.text_operators.proofs.Rows.{row_small}
 use Rattle.text_operators.specs.OperatorNames.{operator_names, find_in, operator_row}
@@ -33,14 +32,14 @@ use Rattle.laws.proofs.Lists.{present}
 use Rattle.text_tokens.proofs.Tokens.{token_inside}
 
 -- after its start, and within the field
-abbrev SpanPast : List ℕ → ℕ → Span → Type 0
-SpanPast s at (Bits a b p) = Past s at p
-SpanPast s at Bad = Unit {0}
+abbrev SpanPast : List ℕ → ℕ → Option Span → Type 0
+SpanPast s at (Some n) = Past s at n.place
+SpanPast s at None = Unit {0}
 
-abbrev pub ReferencePast : List ℕ → ℕ → Reference → Type 0
-ReferencePast s at (Whole r w p) = Past s at p
-ReferencePast s at (Part r w a b p) = Past s at p
-ReferencePast s at Unknown = Unit {0}
+abbrev pub ReferencePast : List ℕ → ℕ → Option Reference → Type 0
+ReferencePast s at (Some (Whole r w p)) = Past s at p
+ReferencePast s at (Some (Part r w a b p)) = Past s at p
+ReferencePast s at None = Unit {0}
 
 -- words: a letter begins one, and it ends past its start
 pub word_of_letter : (b : ℕ) → is_letter b ≡ true → is_word b ≡ true
@@ -62,44 +61,44 @@ module _ (s : List ℕ) (at z : ℕ) (h : at ≤ z) where
   bracket_past : (q : ℕ) → Past s z q → eqb (next s q) angle_close ≡ true → Past s at (skip s q + 1)
   bracket_past q o t = omega (arith, onward Space s q, present s (skip s q) angle_close (eqb-true (next s q) angle_close t) (omega arith))
 
-  second_past : (a : ℕ) (n : Number) → NumberPast s z n → SpanPast s at (second_bit s a n)
+  second_past : (a : ℕ) (n : Option Number) → NumberPast s z n → SpanPast s at (second_bit s a n)
   unfolding second_bit
-  second_past a (Plain b q) o = by_case (SpanPast s at) (eqb (next s q) angle_close) (λ t. bracket_past q o t) (λ t. tt)
-  second_past a Unread o = tt
+  second_past a (Some d) o = by_case (SpanPast s at) (eqb (next s d.place) angle_close) (λ t. bracket_past d.place o t) (λ t. tt)
+  second_past a None o = tt
 
-first_past : (s : List ℕ) (at z : ℕ) → at ≤ z → (n : Number) → NumberPast s z n → SpanPast s at (first_bit s n)
+first_past : (s : List ℕ) (at z : ℕ) → at ≤ z → (n : Option Number) → NumberPast s z n → SpanPast s at (first_bit s n)
 unfolding first_bit
-first_past s at z h (Plain a q) o =
-    by_case (SpanPast s at) (eqb (next s q) angle_close)
-    (λ t. bracket_past s at z h q o t)
+first_past s at z h (Some d) o =
+    by_case (SpanPast s at) (eqb (next s d.place) angle_close)
+    (λ t. bracket_past s at z h d.place o t)
     (λ t.
-    by_case (SpanPast s at) (eqb (next s q) colon)
+    by_case (SpanPast s at) (eqb (next s d.place) colon)
     (λ u.
-    let y = skip s (skip s q + 1) in
-    second_past s at y (omega (arith, onward Space s q, onward Space s (skip s q + 1))) a (decimal_at s y) (decimal_past s y refl))
+    let y = skip s (skip s d.place + 1) in
+    second_past s at y (omega (arith, onward Space s d.place, onward Space s (skip s d.place + 1))) d.value (decimal_at s y) (decimal_past s y refl))
     (λ u. tt))
-first_past s at z h Unread o = tt
+first_past s at z h None o = tt
 
 -- bit parts, by their bit numbers
-part_past : (s : List ℕ) (at r w : ℕ) (n : Span) → SpanPast s at n → ReferencePast s at (part_of r w n)
+part_past : (s : List ℕ) (at r w : ℕ) (n : Option Span) → SpanPast s at n → ReferencePast s at (part_of r w n)
 unfolding part_of
-part_past s at r w (Bits a b p) h = by_case (ReferencePast s at) (leb a b && ltb b w) (λ t. h) (λ t. tt)
-part_past s at r w Bad h = tt
+part_past s at r w (Some n) h = by_case (ReferencePast s at) (leb n.first n.last && ltb n.last w) (λ t. h) (λ t. tt)
+part_past s at r w None h = tt
 
 -- a register of the list, with its width; and bit numbers in order, below it
-abbrev Known : List Named → Reference → Type 0
-Known rs (Whole r w p) = (r < length rs) × (w ≡ width_in rs r)
-Known rs (Part r w a b p) = (r < length rs) × (w ≡ width_in rs r) × (a ≤ b) × (b < w)
-Known rs Unknown = Unit {0}
+abbrev Known : List Named → Option Reference → Type 0
+Known rs (Some (Whole r w p)) = (r < length rs) × (w ≡ width_in rs r)
+Known rs (Some (Part r w a b p)) = (r < length rs) × (w ≡ width_in rs r) × (a ≤ b) × (b < w)
+Known rs None = Unit {0}
 
-part_known : (rs : List Named) (r : ℕ) → r < length rs → (n : Span) → Known rs (part_of r (width_in rs r) n)
+part_known : (rs : List Named) (r : ℕ) → r < length rs → (n : Option Span) → Known rs (part_of r (width_in rs r) n)
 unfolding part_of
-part_known rs r h (Bits a b p) =
+part_known rs r h (Some n) =
     let w = width_in rs r in
-    by_case (Known rs) (leb a b && ltb b w)
-    (λ t. (h, refl, leb-true a b (and_left (leb a b) (ltb b w) t), ltb-true b w (and_right (leb a b) (ltb b w) t)))
+    by_case (Known rs) (leb n.first n.last && ltb n.last w)
+    (λ t. (h, refl, leb-true n.first n.last (and_left (leb n.first n.last) (ltb n.last w) t), ltb-true n.last w (and_right (leb n.first n.last) (ltb n.last w) t)))
     (λ t. tt)
-part_known rs r h Bad = tt
+part_known rs r h None = tt
 
 module _ (rs : List Named) (s : List ℕ) (at : ℕ) where
   abbrev named : ℕ
@@ -108,7 +107,7 @@ module _ (rs : List Named) (s : List ℕ) (at : ℕ) where
   abbrev end : ℕ
   end = run_end Word s at
 
-  pub reference_past : {x : Reference} → is_word (get_or s at 0) ≡ true → reference_at rs s at ≡ x → ReferencePast s at x
+  pub reference_past : {x : Option Reference} → is_word (get_or s at 0) ≡ true → reference_at rs s at ≡ x → ReferencePast s at x
   unfolding reference_at register_at span_at
   reference_past i e =
       let o : Past s at end = word_past s at i in
@@ -132,10 +131,10 @@ module _ (rs : List Named) (s : List ℕ) (at : ℕ) where
       by_case (Known rs) (eqb (next s end) angle_open) (λ u. part_known rs named h (span_at s (skip s end + 1))) (λ u. (h, refl)))
       (λ t. tt)
 
-  pub whole_known : (r w p : ℕ) → reference_at rs s at ≡ Whole r w p → (r < length rs) × (w ≡ width_in rs r)
+  pub whole_known : (r w p : ℕ) → reference_at rs s at ≡ Some (Whole r w p) → (r < length rs) × (w ≡ width_in rs r)
   whole_known r w p e = subst (Known rs) e reference_known
 
-  pub bits_known : (r w a b p : ℕ) → reference_at rs s at ≡ Part r w a b p → (r < length rs) × (w ≡ width_in rs r) × (a ≤ b) × (b < w)
+  pub bits_known : (r w a b p : ℕ) → reference_at rs s at ≡ Some (Part r w a b p) → (r < length rs) × (w ≡ width_in rs r) × (a ≤ b) × (b < w)
   bits_known r w a b p e = subst (Known rs) e reference_known
 
 -- an operator stands in the table, and its token ends past its start

@@ -5,8 +5,7 @@ use Rattle.characters.specs.Ascii.{ascii}
 use Rattle.characters.specs.Characters.{run_end}
 use Rattle.characters.specs.Named.{Named, find}
 use Rattle.characters.specs.declared.Class.TheVariants.{Word}
-use Rattle.text_constants.specs.Constants.{decimal_at}
-use Rattle.text_constants.specs.declared.Number.TheVariants.{Plain}
+use Rattle.text_constants.specs.Constants.{decimal_at, plain}
 use Rattle.text_tokens.specs.Tokens.{skip, slice, after_token, token}
 use Rattle.text_bit_parts.specs.declared.Reference.{Reference}
 use Rattle.text_bit_parts.specs.declared.Reference.TheVariants.{Whole, Part}
@@ -20,9 +19,9 @@ width_in rs r = (get_or rs r (record { name = []; number = 0 })).number
 
 -- the bit numbers behind a name: `<a>` or `<a:b>`, "each decimal, .. without leading zeros", from the place at to the place p
 pub data Spans (s : List ℕ) (at : ℕ) : ℕ → ℕ → ℕ → Type 0 where
-  one_bit : {a q : ℕ} → token s at ≡ ascii "<" → decimal_at s (skip s (after_token s at)) ≡ Plain a q → token s q ≡ ascii ">" → Spans s at a a (after_token s q)
-  two_bits : {a b q p : ℕ} → token s at ≡ ascii "<" → decimal_at s (skip s (after_token s at)) ≡ Plain a q → token s q ≡ ascii ":"
-      → decimal_at s (skip s (after_token s q)) ≡ Plain b p → token s p ≡ ascii ">" → Spans s at a b (after_token s p)
+  one_bit : {a q : ℕ} → token s at ≡ ascii "<" → decimal_at s (skip s (after_token s at)) ≡ plain a q → token s q ≡ ascii ">" → Spans s at a a (after_token s q)
+  two_bits : {a b q p : ℕ} → token s at ≡ ascii "<" → decimal_at s (skip s (after_token s at)) ≡ plain a q → token s q ≡ ascii ":"
+      → decimal_at s (skip s (after_token s q)) ≡ plain b p → token s p ≡ ascii ">" → Spans s at a b (after_token s p)
 
 -- what the name at a place refers to: a register of the list, or bits of one, "a at most b, each .. below the width"
 pub data Refers (rs : List Named) (s : List ℕ) (at : ℕ) : Reference → Type 0 where

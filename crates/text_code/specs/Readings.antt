@@ -1,13 +1,11 @@
 -- What the reader's definition makes of what was read, form by form of operands and operators.
 -- Assumes nothing.
-use Rattle.std.specs.Prelude.{ℕ, ◌+◌, true, false, List, eqb, leb}
+use Rattle.std.specs.Prelude.{ℕ, ◌+◌, true, false, List, eqb, leb, Option, Some, None}
 use Rattle.word.specs.Word.{widest}
 use Rattle.text_constants.specs.declared.Number.{Number}
-use Rattle.text_constants.specs.declared.Number.TheVariants.{Plain, Unread}
 use Rattle.text_constants.specs.declared.Constant.{Constant}
-use Rattle.text_constants.specs.declared.Constant.TheVariants.{Found, Missing}
 use Rattle.text_bit_parts.specs.declared.Reference.{Reference}
-use Rattle.text_bit_parts.specs.declared.Reference.TheVariants.{Whole, Part, Unknown}
+use Rattle.text_bit_parts.specs.declared.Reference.TheVariants.{Whole, Part}
 use Rattle.text_operators.specs.Operators.{entry_in}
 use Rattle.text_tokens.specs.Tokens.{skip, next}
 use Rattle.text_tokens.specs.Signs.{square_close}
@@ -19,14 +17,14 @@ unfoldable pub limited : Expr → ℕ → Reading
 limited t p = elim (leb (width t) widest) [ true ↦ read t p | false ↦ outside ]
 
 -- a name or a bit part, and a constant
-unfoldable pub of_reference : Reference → Reading
-of_reference (Whole r w p) = limited (register r w) p
-of_reference (Part r w a b p) = limited (bit_part r w a b) p
-of_reference Unknown = outside
+unfoldable pub of_reference : Option Reference → Reading
+of_reference (Some (Whole r w p)) = limited (register r w) p
+of_reference (Some (Part r w a b p)) = limited (bit_part r w a b) p
+of_reference None = outside
 
-unfoldable pub of_constant : Constant → Reading
-of_constant (Found v w p) = limited (constant w v) p
-of_constant Missing = outside
+unfoldable pub of_constant : Option Constant → Reading
+of_constant (Some d) = limited (constant d.width d.value) d.place
+of_constant None = outside
 
 -- "Not", before its operand
 unfoldable pub not_of : Reading → Reading
@@ -42,9 +40,9 @@ closed s close (read t p) = elim (eqb (next s p) close) [ true ↦ read (inside 
 closed s close outside = outside
 
 -- "Slr, Srr (rotate; right side a decimal from 0 to 15 ..)"
-unfoldable pub rotation_of : ℕ → Expr → Number → Reading
-rotation_of row t (Plain n p) = elim (leb n largest_count) [ true ↦ read (rotated (entry_in row).operator t n) p | false ↦ outside ]
-rotation_of row t Unread = outside
+unfoldable pub rotation_of : ℕ → Expr → Option Number → Reading
+rotation_of row t (Some d) = elim (leb d.value largest_count) [ true ↦ read (rotated (entry_in row).operator t d.value) d.place | false ↦ outside ]
+rotation_of row t None = outside
 
 -- the other operators
 unfoldable pub joined : ℕ → Expr → Reading → Reading

@@ -1,4 +1,5 @@
 // The kinds of the stored words: a register, a bit part of one, a constant, a word of memory, and the operators in the order of their table.
+// They are numbers and no enum: they stand in the table of words that a caller lends, where any number may stand, and are told apart by ranges and reckoned from rows.
 pub const REGISTER: u16 = 0;
 
 pub const PART: u16 = 1;

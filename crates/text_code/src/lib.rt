@@ -6,7 +6,7 @@ pub mod kinds;
 pub mod leaves;
 pub mod row_table;
 
-ghost use Rattle.std.specs.Prelude.{◌≡◌, [], ◌∷◌, ◌+◌, ◌*◌, ◌≤◌, ◌<◌};
+ghost use Rattle.std.specs.Prelude.{◌≡◌, ◌+◌, ◌*◌, ◌≤◌, ◌<◌};
 ghost use Rattle.std.proofs.lemmas.List.Edits.{sets};
 ghost use Rattle.text_code.specs.Met.{capacity};
 
@@ -26,33 +26,45 @@ pub struct Cursor {
     pub pieces: usize,
 }
 
-// A part of an expression that was read, with its width, or a fault.
+impl Cursor {
+    // The cursor at another place, with as many words and pieces.
+    pub fn at(self, place: usize) -> Cursor
+        ensures { result ≡ record { place = place; words = self.words; pieces = self.pieces } }
+    {
+        Cursor {
+            place: place,
+            words: self.words,
+            pieces: self.pieces,
+        }
+    }
+
+    // The cursor at another place, with one word more, which counts so many pieces.
+    pub fn with_word(self, place: usize, pieces: usize) -> Cursor
+        requires words_fit { self.words ≤ capacity }
+        requires pieces_fit { self.pieces ≤ capacity }
+        requires few_pieces { pieces ≤ 2 }
+        ensures { result ≡ record { place = place; words = self.words + 1; pieces = self.pieces + pieces } }
+    {
+        Cursor {
+            place: place,
+            words: self.words + 1,
+            pieces: self.pieces + pieces,
+        }
+    }
+}
+
+// A part of an expression that was read: the cursor behind it, and its width.
 #[derive(Clone, Copy)]
-pub enum Part {
-    Found(Cursor, u16),
-    Fault,
+pub struct Part {
+    pub end: Cursor,
+    pub width: u16,
 }
 
 // Puts a word into the table: its kind and three numbers.
-fn emit(code: &mut [u16; CODE_PLACES], words: usize, kind: u16, a: u16, b: u16, c: u16)
+fn emit(code: &mut [u16; CODE_PLACES], words: usize, word: [u16; 4])
     requires { words < capacity }
-    ensures { code.new ≡ sets code.old (4 * words) (kind ∷ a ∷ b ∷ c ∷ []) }
+    ensures { code.new ≡ sets code.old (4 * words) word }
 {
     let at = 4 * words;
-    code[at] = kind;
-    code[at + 1] = a;
-    code[at + 2] = b;
-    code[at + 3] = c;
-}
-
-// A cursor at a place, with one word and one piece more.
-fn one_more(c: Cursor, place: usize) -> Cursor
-    requires { (c.words ≤ capacity) × (c.pieces ≤ capacity) }
-    ensures { result ≡ record { place = place; words = c.words + 1; pieces = c.pieces + 1 } }
-{
-    Cursor {
-        place: place,
-        words: c.words + 1,
-        pieces: c.pieces + 1,
-    }
+    code[at..at + 4].copy_from_slice(&word);
 }

@@ -29,6 +29,7 @@ pub const SIZE: usize = 7;
 pub const PASSED: usize = 8;
 
 // The kinds of rows: a `do` into a register, into a bit part of one, into memory; a `go`.
+// They are numbers and no enum, as the kinds of words are: they stand in a table that a caller lends.
 pub const TO_REGISTER: u16 = 0;
 
 pub const TO_PART: u16 = 1;

@@ -11,6 +11,7 @@ use lib.Dec.{eqb, leb, ltb}
 use lib.ListN.{length, get_or, take, drop, take-append-drop}
 use lib.Seq.{drop-cons, get_or-drop, get_or-take}
 use borrow.Author.Tests.{le-leb, leb-true, leb-false, eq-eqb, eqb-true, eqb-false, not-true}
+use Rattle.std.specs.Prelude.{Option, Some, None}
 use Rattle.laws.proofs.Tests.{by_test, by_case, not_so}
 use Rattle.laws.proofs.Joined.{and_left, and_right, all_three, either}
 use Rattle.laws.proofs.Lists.{present}
@@ -20,10 +21,8 @@ use Rattle.characters.specs.declared.Class.{Class}
 use Rattle.characters.specs.declared.Class.TheVariants.{Word, Binary, Octal, Decimal}
 use Rattle.characters.proofs.Runs.{run_onward}
 use Rattle.text_constants.specs.declared.Number.{Number}
-use Rattle.text_constants.specs.declared.Number.TheVariants.{Plain, Unread}
 use Rattle.text_constants.specs.declared.Constant.{Constant}
-use Rattle.text_constants.specs.declared.Constant.TheVariants.{Found, Missing}
-use Rattle.text_constants.specs.Constants.{binary_mark, octal_mark, binary_digits, octal_digits, decimal_digits, largest, number_at, shortest, is_plain, decimal_at, marked_at, of_decimal, constant_at}
+use Rattle.text_constants.specs.Constants.{binary_mark, octal_mark, binary_digits, octal_digits, decimal_digits, largest, number_at, shortest, is_plain, decimal_at, marked_at, of_decimal, constant_at, plain, found}
 use Rattle.text_constants.specs.Numerals.{digit_value, value_of, All, none, more, Ends, with_line, before, IsMarked, IsDecimal, IsConstant, binary, octal, decimal}
 use Rattle.text_constants.proofs.Readings.{digits_between, marked_found, by_binary, by_octal, by_decimal}
 use Rattle.text_constants.proofs.Taken.{run_is, run_all, run_ends, run_length, wider, first_is, others_are, binary_told, octal_told, decimal_told, value_is}
@@ -48,8 +47,8 @@ module _ {mark : ℕ} {k : Class} {size most v w p : ℕ} (s : List ℕ) (at : �
 
 module _ (mark : ℕ) (k : Class) (size most : ℕ) (told : (b : ℕ) → belongs k b ≡ true → b % 16 ≡ digit_value b) (s : List ℕ) (at : ℕ) where
   -- what holds of every one that stands there, and of none, holds of what is read
-  marked_said : 0 < mark → get_or s at 0 ≡ mark → (P : Constant → Type 0)
-      → ((v w p : ℕ) → IsMarked mark k size most (drop at s) at v w p → P (Found v w p)) → P Missing → P (marked_at k (2 ^ size) size most s (at + 1))
+  marked_said : 0 < mark → get_or s at 0 ≡ mark → (P : Option Constant → Type 0)
+      → ((v w p : ℕ) → IsMarked mark k size most (drop at s) at v w p → P (found v w p)) → P None → P (marked_at k (2 ^ size) size most s (at + 1))
   unfolding marked_at run_end
   marked_said i e P found missing =
       let t = drop (at + 1) s in
@@ -79,13 +78,13 @@ module _ (mark : ℕ) (k : Class) (size most : ℕ) (told : (b : ℕ) → belong
       }))
       (λ u. missing)
 
-  marked_read : {v w p : ℕ} → IsMarked mark k size most (drop at s) at v w p → marked_at k (2 ^ size) size most s (at + 1) ≡ Found v w p
+  marked_read : {v w p : ℕ} → IsMarked mark k size most (drop at s) at v w p → marked_at k (2 ^ size) size most s (at + 1) ≡ found v w p
   marked_read {v = v} {w = w} {p = p} h =
       let n = length h.digits in
       marked_found k (2 ^ size) size most s (at + 1) n (ends_at s at h) (omega (arith, h.some)) (omega (arith, h.few))
-      ∙ ap (λ (x : ℕ). Found x (size * n) (at + 1 + n)) (value_is k told (2 ^ size) s h.digits h.rest (at + 1) (behind s at h) h.all ∙ sym h.value)
-      ∙ ap (λ (x : ℕ). Found v x (at + 1 + n)) (sym h.width)
-      ∙ ap (λ (x : ℕ). Found v w x) (sym h.after)
+      ∙ ap (λ (x : ℕ). found x (size * n) (at + 1 + n)) (value_is k told (2 ^ size) s h.digits h.rest (at + 1) (behind s at h) h.all ∙ sym h.value)
+      ∙ ap (λ (x : ℕ). found v x (at + 1 + n)) (sym h.width)
+      ∙ ap (λ (x : ℕ). found v w x) (sym h.after)
 
 -- ---- decimals
 
@@ -134,9 +133,9 @@ unleading first at n h =
     (λ t. rw (t, eq-eqb (at + n) (at + 1) (ap (λ (j : ℕ). at + j) (h (eqb-true first (digit 0) t)))))
     (λ t. rw t)
 
-abbrev Is-unread : Number → Type 0
-Is-unread (Plain v p) = ⊥
-Is-unread Unread = Unit {0}
+abbrev Is-unread : Option Number → Type 0
+Is-unread (Some d) = ⊥
+Is-unread None = Unit {0}
 
 module _ (s : List ℕ) (at : ℕ) where
   abbrev onward : List ℕ
@@ -192,9 +191,9 @@ module _ (s : List ℕ) (at : ℕ) where
           after = ap (λ (j : ℕ). at + j) (sym many);
         }
 
-  abbrev Decimal-at : Number → Type 0
-  Decimal-at (Plain v p) = IsDecimal (drop at s) at v p
-  Decimal-at Unread = Unit {0}
+  abbrev Decimal-at : Option Number → Type 0
+  Decimal-at (Some d) = IsDecimal (drop at s) at d.value d.place
+  Decimal-at None = Unit {0}
 
   all_decimal : Decimal-at (decimal_at s at)
   unfolding decimal_at run_end
@@ -207,7 +206,7 @@ module _ (s : List ℕ) (at : ℕ) where
       (λ u. tt))
       (λ t. tt)
 
-  pub decimal_said : {v p : ℕ} → decimal_at s at ≡ Plain v p → IsDecimal (drop at s) at v p
+  pub decimal_said : {v p : ℕ} → decimal_at s at ≡ plain v p → IsDecimal (drop at s) at v p
   decimal_said e = subst Decimal-at e all_decimal
 
   -- a decimal that stands there is read
@@ -228,7 +227,7 @@ module _ (s : List ℕ) (at : ℕ) where
     unfolding run_end
     decimal_end = ap (λ (j : ℕ). at + j) words ∙ sym h.after
 
-    pub decimal_read : decimal_at s at ≡ Plain v p
+    pub decimal_read : decimal_at s at ≡ plain v p
     unfolding decimal_at run_end
     decimal_read =
         let d = length h.digits in
@@ -242,18 +241,18 @@ module _ (s : List ℕ) (at : ℕ) where
         ap (λ (j : ℕ). number_at 10 s at j 0) (omega (arith, words)) ∙ value_is Decimal decimal_told 10 s h.digits h.rest at h.stands h.all ∙ sym h.value in
         let small = le-leb (number_at 10 s at (at + n - at) 0) largest (subst (λ (x : ℕ). x ≤ largest) (sym value) h.small) in
         rw (digit_stands, equal, short, leads, small, decimal_at)
-        (ap (λ (x : ℕ). Plain x (at + n)) value ∙ ap (λ (x : ℕ). Plain v x) (ap (λ (j : ℕ). at + j) words ∙ sym h.after))
+        (ap (λ (x : ℕ). plain x (at + n)) value ∙ ap (λ (x : ℕ). plain v x) (ap (λ (j : ℕ). at + j) words ∙ sym h.after))
 
   -- none is read where none stands, and only there
-  pub no_decimal : decimal_at s at ≡ Unread → (v p : ℕ) → IsDecimal (drop at s) at v p → ⊥
+  pub no_decimal : decimal_at s at ≡ None → (v p : ℕ) → IsDecimal (drop at s) at v p → ⊥
   no_decimal e v p h = subst Is-unread (sym e ∙ decimal_read h) tt
 
-  pub is_unread : ((v p : ℕ) → IsDecimal (drop at s) at v p → ⊥) → decimal_at s at ≡ Unread
+  pub is_unread : ((v p : ℕ) → IsDecimal (drop at s) at v p → ⊥) → decimal_at s at ≡ None
   is_unread h = none_of (decimal_at s at) all_decimal
     where
-      none_of : (x : Number) → Decimal-at x → x ≡ Unread
-      none_of (Plain v p) i = absurd (h v p i)
-      none_of Unread i = refl
+      none_of : (x : Option Number) → Decimal-at x → x ≡ None
+      none_of (Some d) i = absurd (h d.value d.place i)
+      none_of None i = refl
 
 -- ---- constants
 
@@ -261,19 +260,19 @@ module _ (s : List ℕ) (at : ℕ) where
 no_mark : (b mark : ℕ) → mark < digit 0 → is_digit b ≡ true → b ≡ mark → ⊥
 no_mark b mark l e i = omega (arith, leb-true 48 b (and_left (leb 48 b) (leb b 57) e))
 
-abbrev Is-missing : Constant → Type 0
-Is-missing (Found v w p) = ⊥
-Is-missing Missing = Unit {0}
+abbrev Is-missing : Option Constant → Type 0
+Is-missing (Some d) = ⊥
+Is-missing None = Unit {0}
 
 module _ (s : List ℕ) (at : ℕ) where
-  abbrev Constant-at : Constant → Type 0
-  Constant-at (Found v w p) = IsConstant (drop at s) at v w p
-  Constant-at Missing = Unit {0}
+  abbrev Constant-at : Option Constant → Type 0
+  Constant-at (Some d) = IsConstant (drop at s) at d.value d.width d.place
+  Constant-at None = Unit {0}
 
-  of_decimal_lem : (n : Number) → Decimal-at s at n → Constant-at (of_decimal n)
+  of_decimal_lem : (n : Option Number) → Decimal-at s at n → Constant-at (of_decimal n)
   unfolding of_decimal
-  of_decimal_lem (Plain v p) h = decimal h (shortest_least v h.small)
-  of_decimal_lem Unread h = tt
+  of_decimal_lem (Some d) h = decimal h (shortest_least d.value h.small)
+  of_decimal_lem None h = tt
 
   all_constant : Constant-at (constant_at s at)
   unfolding constant_at
@@ -286,11 +285,11 @@ module _ (s : List ℕ) (at : ℕ) where
       (λ u. of_decimal_lem (decimal_at s at) (all_decimal s at)))
 
   -- what is read is a constant that stands there
-  pub constant_said : {v w p : ℕ} → constant_at s at ≡ Found v w p → IsConstant (drop at s) at v w p
+  pub constant_said : {v w p : ℕ} → constant_at s at ≡ found v w p → IsConstant (drop at s) at v w p
   constant_said e = subst Constant-at e all_constant
 
   -- a constant that stands there is read
-  pub constant_read : {v w p : ℕ} → IsConstant (drop at s) at v w p → constant_at s at ≡ Found v w p
+  pub constant_read : {v w p : ℕ} → IsConstant (drop at s) at v w p → constant_at s at ≡ found v w p
   unfolding of_decimal
   constant_read (binary h) =
       by_binary s at (mark_stands s at h) ∙ marked_read binary_mark Binary 1 binary_digits binary_told s at h
@@ -300,19 +299,19 @@ module _ (s : List ℕ) (at : ℕ) where
       let d = digit_stands s at h in
       by_decimal s at (no_mark (get_or s at 0) binary_mark (omega arith) d) (no_mark (get_or s at 0) octal_mark (omega arith) d)
       ∙ ap of_decimal (decimal_read s at h)
-      ∙ ap (λ (k : ℕ). Found v (k + 1) p) (one_shortest v (shortest v) n (shortest_least v h.small) g)
+      ∙ ap (λ (k : ℕ). found v (k + 1) p) (one_shortest v (shortest v) n (shortest_least v h.small) g)
 
   -- none is read where none stands, and only there
-  pub no_constant : constant_at s at ≡ Missing → (v w p : ℕ) → IsConstant (drop at s) at v w p → ⊥
+  pub no_constant : constant_at s at ≡ None → (v w p : ℕ) → IsConstant (drop at s) at v w p → ⊥
   no_constant e v w p h = subst Is-missing (sym e ∙ constant_read h) tt
 
-  pub is_missing_lem : ((v w p : ℕ) → IsConstant (drop at s) at v w p → ⊥) → constant_at s at ≡ Missing
+  pub is_missing_lem : ((v w p : ℕ) → IsConstant (drop at s) at v w p → ⊥) → constant_at s at ≡ None
   is_missing_lem h = none_of (constant_at s at) all_constant
     where
-      none_of : (x : Constant) → Constant-at x → x ≡ Missing
-      none_of (Found v w p) i = absurd (h v w p i)
-      none_of Missing i = refl
+      none_of : (x : Option Constant) → Constant-at x → x ≡ None
+      none_of (Some d) i = absurd (h d.value d.width d.place i)
+      none_of None i = refl
 
   -- at most one stands there
-  pub one_constant : {v w p x y z : ℕ} → IsConstant (drop at s) at v w p → IsConstant (drop at s) at x y z → ◌≡◌ {A = Constant} (Found v w p) (Found x y z)
+  pub one_constant : {v w p x y z : ℕ} → IsConstant (drop at s) at v w p → IsConstant (drop at s) at x y z → ◌≡◌ {A = Option Constant} (found v w p) (found x y z)
   one_constant h g = sym (constant_read h) ∙ constant_read g

@@ -11,16 +11,15 @@ use lib.Pow.{pow_mono}
 use lib.Dec.{eqb, leb, ltb}
 use lib.ListN.{length, get_or, get_or-eq_default}
 use borrow.Author.Tests.{leb-true, ltb-true, ltb-false, lt-ltb, le-leb, lt-leb, eq-eqb, ne_eqb}
+use Rattle.std.specs.Prelude.{Option, None}
 use Rattle.characters.specs.Characters.{is_digit, run_end}
-use Rattle.text_constants.specs.Constants.{binary_mark, octal_mark, binary_digits, octal_digits, largest, number_at, shortest, is_plain, decimal_at, marked_at, of_decimal, constant_at}
+use Rattle.text_constants.specs.Constants.{binary_mark, octal_mark, binary_digits, octal_digits, largest, number_at, shortest, is_plain, decimal_at, marked_at, of_decimal, constant_at, plain, found}
 use Rattle.text_constants.specs.Sizes.{Sized}
 use Rattle.word.specs.Word.{widest}
 use Rattle.word.specs.Choice.{pick}
 use Rattle.characters.specs.declared.Class.{Class}
 use Rattle.characters.specs.declared.Class.TheVariants.{Word, Binary, Octal, Decimal}
-use Rattle.text_constants.specs.declared.Number.TheVariants.{Plain, Unread}
 use Rattle.text_constants.specs.declared.Constant.{Constant}
-use Rattle.text_constants.specs.declared.Constant.TheVariants.{Found, Missing}
 use Rattle.characters.proofs.Runs.{onward, within, at_end}
 use Rattle.laws.proofs.Joined.{and_left, and_right}
 use Rattle.laws.proofs.Tests.{by_test, by_case}
@@ -33,7 +32,7 @@ digits_between at r most t =
 
 -- n digits of a run, which are neither none nor too many, make a constant; none, or too many, make none
 module _ (k : Class) (base size most : ℕ) (s : List ℕ) (at : ℕ) where
-  pub marked_found : (n : ℕ) → run_end k s at ≡ at + n → 1 ≤ n → n ≤ most → marked_at k base size most s at ≡ Found (number_at base s at n 0) (size * n) (at + n)
+  pub marked_found : (n : ℕ) → run_end k s at ≡ at + n → 1 ≤ n → n ≤ most → marked_at k base size most s at ≡ found (number_at base s at n 0) (size * n) (at + n)
   unfolding marked_at
   marked_found n e l h =
       let r = run_end k s at in
@@ -41,21 +40,21 @@ module _ (k : Class) (base size most : ℕ) (s : List ℕ) (at : ℕ) where
       let few : leb r (at + most) ≡ true = le-leb r (at + most) (omega (arith, e)) in
       let many : r - at ≡ n = omega (arith, e) in
       rw (some, few, marked_at)
-      (ap (λ (j : ℕ). Found (number_at base s at j 0) (size * j) r) many ∙ ap (λ (p : ℕ). Found (number_at base s at n 0) (size * n) p) e)
+      (ap (λ (j : ℕ). found (number_at base s at j 0) (size * j) r) many ∙ ap (λ (p : ℕ). found (number_at base s at n 0) (size * n) p) e)
 
   -- given by numbers that are these
   pub found_as : (n v w p : ℕ) → run_end k s at ≡ at + n → 1 ≤ n → n ≤ most → v ≡ number_at base s at n 0 → w ≡ size * n → p ≡ at + n
-      → Found v w p ≡ marked_at k base size most s at
+      → found v w p ≡ marked_at k base size most s at
   found_as n v w p e l h value width place =
-      ap (λ (x : ℕ). Found x w p) value
-      ∙ ap (λ (x : ℕ). Found (number_at base s at n 0) x p) width
-      ∙ ap (λ (x : ℕ). Found (number_at base s at n 0) (size * n) x) place
+      ap (λ (x : ℕ). found x w p) value
+      ∙ ap (λ (x : ℕ). found (number_at base s at n 0) x p) width
+      ∙ ap (λ (x : ℕ). found (number_at base s at n 0) (size * n) x) place
       ∙ sym (marked_found n e l h)
 
-  pub marked_missing : (n : ℕ) → run_end k s at ≡ at + n → (1 ≤ n → n ≤ most → ⊥) → marked_at k base size most s at ≡ Missing
+  pub marked_missing : (n : ℕ) → run_end k s at ≡ at + n → (1 ≤ n → n ≤ most → ⊥) → marked_at k base size most s at ≡ None
   unfolding marked_at
   marked_missing n e h =
-      by_case (λ (c : Constant). c ≡ Missing) (ltb at (run_end k s at) && leb (run_end k s at) (at + most))
+      by_case (λ (c : Option Constant). c ≡ None) (ltb at (run_end k s at) && leb (run_end k s at) (at + most))
       (λ t.
       let l = digits_between at (run_end k s at) most t in
       absurd (h (omega (arith, e)) (omega (arith, e))))
@@ -73,7 +72,7 @@ pub record Counted (k : Class) (base size most : ℕ) (s : List ℕ) (at n : ℕ
 
 -- as the code counts them in a run up to r
 module _ (k : Class) (base size most : ℕ) (s : List ℕ) (at r n : ℕ) (e : r ≡ run_end k s at) (c : n ≡ pick (leb (r - at) most) (r - at) 0) where
-  pub none_counts : n ≡ 0 → marked_at k base size most s at ≡ Missing
+  pub none_counts : n ≡ 0 → marked_at k base size most s at ≡ None
   none_counts z =
       marked_missing k base size most s at (r - at) (omega (arith, e, onward k s at))
       (λ l m. absurd (omega (arith, c ∙ ap (λ (b : Bool). pick b (r - at) 0) (le-leb (r - at) most m))))
@@ -113,22 +112,22 @@ module _ (s : List ℕ) (at : ℕ) where
   abbrev pub written : ℕ
   written = number_at 10 s at (run_end Word s at - at) 0
 
-  pub decimal_found : Plainly true → written ≤ largest → decimal_at s at ≡ Plain written (run_end Word s at)
+  pub decimal_found : Plainly true → written ≤ largest → decimal_at s at ≡ plain written (run_end Word s at)
   unfolding decimal_at
   decimal_found t h = rw (t, le-leb written largest h, decimal_at)
 
-  pub decimal_large : Plainly true → largest < written → decimal_at s at ≡ Unread
+  pub decimal_large : Plainly true → largest < written → decimal_at s at ≡ None
   unfolding decimal_at
   decimal_large t h = rw (t, lt-leb written largest h, decimal_at)
 
-  pub decimal_none : Plainly false → decimal_at s at ≡ Unread
+  pub decimal_none : Plainly false → decimal_at s at ≡ None
   unfolding decimal_at
   decimal_none t = rw (t, decimal_at)
 
 -- a decimal as a constant, of a width that is this one
-pub decimal_as : (v w p : ℕ) → w ≡ shortest v + 1 → Found v w p ≡ of_decimal (Plain v p)
+pub decimal_as : (v w p : ℕ) → w ≡ shortest v + 1 → found v w p ≡ of_decimal (plain v p)
 unfolding of_decimal
-decimal_as v w p e = ap (λ (x : ℕ). Found v x p) e
+decimal_as v w p e = ap (λ (x : ℕ). found v x p) e
 
 -- the byte at a place tells which kind stands there, if any does
 module _ (s : List ℕ) (at : ℕ) where
@@ -147,17 +146,17 @@ module _ (s : List ℕ) (at : ℕ) where
   by_decimal h g = rw (ne_eqb (get_or s at 0) binary_mark h, ne_eqb (get_or s at 0) octal_mark g, constant_at)
 
   -- read from the place behind the mark, however that is reckoned
-  pub behind_as : (k : Class) (base size most p : ℕ) (c : Constant) → constant_at s at ≡ marked_at k base size most s (at + 1) → p ≡ at + 1
+  pub behind_as : (k : Class) (base size most p : ℕ) (c : Option Constant) → constant_at s at ≡ marked_at k base size most s (at + 1) → p ≡ at + 1
       → c ≡ marked_at k base size most s p → c ≡ constant_at s at
   behind_as k base size most p c e i h = h ∙ ap (λ (j : ℕ). marked_at k base size most s j) i ∙ sym e
 
 -- past the end stands neither a decimal nor another constant
 module _ (s : List ℕ) (at : ℕ) (h : length s ≤ at) where
-  pub decimal_past_end : decimal_at s at ≡ Unread
+  pub decimal_past_end : decimal_at s at ≡ None
   unfolding decimal_at
   decimal_past_end = rw (get_or-eq_default s 0 h, decimal_at)
 
-  pub constant_past_end : constant_at s at ≡ Missing
+  pub constant_past_end : constant_at s at ≡ None
   unfolding of_decimal
   constant_past_end =
       let z : get_or s at 0 ≡ 0 = get_or-eq_default s 0 h in

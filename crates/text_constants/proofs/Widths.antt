@@ -10,6 +10,7 @@ use lib.Dec.{eqb, leb, ltb}
 use lib.ListN.{get_or}
 use lib.Pow.{pow_mono}
 use borrow.Author.Tests.{leb-true}
+use Rattle.std.specs.Prelude.{Option, Some, None}
 use Rattle.word.specs.Word.{widest}
 use Rattle.characters.specs.Characters.{is_digit, run_end}
 use Rattle.text_constants.specs.Constants.{binary_mark, octal_mark, number_at, largest, is_plain, decimal_at, marked_at, shortest, of_decimal, constant_at, binary_digits, octal_digits}
@@ -17,7 +18,6 @@ use Rattle.characters.specs.declared.Class.{Class}
 use Rattle.characters.specs.declared.Class.TheVariants.{Word, Binary, Octal, Decimal}
 use Rattle.text_constants.specs.declared.Number.{Number}
 use Rattle.text_constants.specs.declared.Constant.{Constant}
-use Rattle.text_constants.specs.declared.Constant.TheVariants.{Found, Missing}
 use Rattle.laws.proofs.Tests.{by_case}
 use Rattle.text_constants.specs.Sizes.{Sized, Narrow}
 use Rattle.text_constants.proofs.Digits.{value_lt, binary_sized, octal_sized}
@@ -25,9 +25,9 @@ use Rattle.text_constants.proofs.Readings.{digits_between}
 use Rattle.text_constants.proofs.Shortest.{shortest_le, shortest_least}
 
 -- a constant of 1 to 16 bits, which its value fits
-abbrev pub Fitting : Constant → Type 0
-Fitting (Found v w p) = record { some : 1 ≤ w; narrow : w ≤ widest; fits : v < 2 ^ w }
-Fitting Missing = Unit {0}
+abbrev pub Fitting : Option Constant → Type 0
+Fitting (Some d) = record { some : 1 ≤ d.width; narrow : d.width ≤ widest; fits : d.value < 2 ^ d.width }
+Fitting None = Unit {0}
 
 -- digits of `size` bits each behind a mark
 marked_fits : (k : Class) (base size most : ℕ) → Sized k base size most → (s : List ℕ) (at : ℕ) → Fitting (marked_at k base size most s at)
@@ -59,9 +59,9 @@ longer_fits v h =
 decimal_fits : (s : List ℕ) (at : ℕ) → Fitting (of_decimal (decimal_at s at))
 unfolding decimal_at of_decimal
 decimal_fits s at =
-    by_case (λ (n : Number). Fitting (of_decimal n)) (is_digit (get_or s at 0) && is_plain (get_or s at 0) at (run_end Decimal s at) (run_end Word s at))
+    by_case (λ (n : Option Number). Fitting (of_decimal n)) (is_digit (get_or s at 0) && is_plain (get_or s at 0) at (run_end Decimal s at) (run_end Word s at))
     (λ t.
-    by_case (λ (n : Number). Fitting (of_decimal n)) (leb (number_at 10 s at (run_end Word s at - at) 0) largest)
+    by_case (λ (n : Option Number). Fitting (of_decimal n)) (leb (number_at 10 s at (run_end Word s at - at) 0) largest)
     (λ u.
     let h = longer_fits (number_at 10 s at (run_end Word s at - at) 0) (leb-true (number_at 10 s at (run_end Word s at - at) 0) largest u) in
     record { some = omega arith; narrow = h.1; fits = h.0 })
@@ -81,6 +81,6 @@ constant_fits s at =
 pub constant_narrow : (s : List ℕ) (at : ℕ) → Narrow (constant_at s at)
 constant_narrow s at = narrow (constant_at s at) (constant_fits s at)
   where
-    narrow : (c : Constant) → Fitting c → Narrow c
-    narrow (Found v w p) h = h.narrow
-    narrow Missing h = tt
+    narrow : (c : Option Constant) → Fitting c → Narrow c
+    narrow (Some d) h = h.narrow
+    narrow None h = tt

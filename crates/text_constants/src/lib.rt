@@ -1,7 +1,7 @@
 // Constants, read straight from the line: binary and octal ones behind their marks, and decimals.
 #![tactic(auto)]
 
-ghost use Rattle.std.specs.Prelude.{◌≡◌, leb, length, ◌+◌, ◌≤◌};
+ghost use Rattle.std.specs.Prelude.{◌≡◌, Some, leb, length, ◌+◌, ◌≤◌};
 ghost use Rattle.word.specs.Choice.{pick};
 ghost use Rattle.text_constants.specs.Constants.{number_at, decimal_at, marked_at, shortest, constant_at, of_decimal};
 ghost use Rattle.text_constants.specs.Sizes.{Sized};
@@ -17,50 +17,40 @@ const DECIMAL_DIGITS: usize = 5;
 
 const LARGEST: u64 = 32767;
 
-// A decimal and the place after it, or that none is there.
+// A decimal that was read, and the place after it.
 #[derive(Clone, Copy)]
-pub enum Number {
-    Plain { value: u16, place: usize },
-    Unread,
+pub struct Number {
+    pub value: u16,
+    pub place: usize,
 }
 
-// A constant and the place after it, or that none is there.
+// A constant that was read, its width and the place after it.
 #[derive(Clone, Copy)]
-pub enum Constant {
-    Found {
-        value: u16,
-        width: u16,
-        place: usize,
-    },
-    Missing,
+pub struct Constant {
+    pub value: u16,
+    pub width: u16,
+    pub place: usize,
 }
 
 // The number that n digits from a place stand for, at most 16: a digit takes up to four of 64 bits.
 pub fn digits_value(s: &[u8], at: usize, n: usize, base: u64) -> u64
-    requires fact_1 { at + n ≤ length s.now }
-    requires fact_2 { n ≤ 16 }
-    requires fact_3 { base ≤ 10 }
+    requires within_line { at + n ≤ length s.now }
+    requires few_digits { n ≤ 16 }
+    requires small_base { base ≤ 10 }
     ensures { result ≡ number_at base s.now at n 0 }
 {
     let mut v: u64 = 0;
-    let mut i = at;
-    let mut left = n;
-    while 0 < left {
-        v = v * base + (s[i] % 16) as u64;
-        i += 1;
-        left -= 1;
+    for digit in &s[at..at + n] {
+        v = v * base + (*digit % 16) as u64;
     }
     v
 }
 
-// The decimal at a place.
-pub fn decimal_at(s: &[u8], at: usize) -> Number
+// The decimal at a place, if one is there.
+pub fn decimal_at(s: &[u8], at: usize) -> Option<Number>
     ensures { result ≡ decimal_at s.now at }
 {
-    if s.len() <= at {
-        return Number::Unread;
-    }
-    let first = s[at];
+    let first = *s.get(at)?;
     let end = characters::run_end(s, at, Class::Word);
     let digits = characters::run_end(s, at, Class::Decimal);
     let plain = (digits == end)
@@ -69,13 +59,13 @@ pub fn decimal_at(s: &[u8], at: usize) -> Number
     if characters::is_digit(first) & plain {
         let value = digits_value(s, at, end - at, 10);
         if value <= LARGEST {
-            return Number::Plain {
+            return Some(Number {
                 value: value as u16,
                 place: end,
-            };
+            });
         }
     }
-    Number::Unread
+    None
 }
 
 // How many of n digits count: all of them, or none where they are more than `most`.
@@ -86,64 +76,61 @@ fn counted(n: usize, most: usize) -> usize
 }
 
 // The constant whose digits begin at a place, behind its mark: 1 to `most` digits of a class, of `size` bits each.
-fn marked_at(s: &[u8], at: usize, class: Class, base: u64, size: usize, most: usize) -> Constant
+fn marked_at(
+    s: &[u8],
+    at: usize,
+    class: Class,
+    base: u64,
+    size: usize,
+    most: usize,
+) -> Option<Constant>
     requires { Sized class base size most }
     ensures { result ≡ marked_at class base size most s.now at }
 {
     let n = counted(characters::run_end(s, at, class) - at, most);
     if n == 0 {
-        return Constant::Missing;
+        return None;
     }
-    Constant::Found {
+    Some(Constant {
         value: digits_value(s, at, n, base) as u16,
         width: (size * n) as u16,
         place: at + n,
-    }
+    })
 }
 
 // The bits of a decimal's shortest form.
 fn shortest_form(v: u64) -> u64
     ensures { result ≡ shortest v }
 {
-    let mut n = 1;
-    while n < 15 {
+    for n in 1..15 {
         if word::is_narrow(n, v) {
             return n;
         }
-        n += 1;
     }
-    n
+    15
 }
 
 // A decimal as a constant: one bit longer than its shortest form.
 fn from_decimal(d: Number) -> Constant
-    ensures { result ≡ of_decimal d }
+    ensures { Some result ≡ of_decimal (Some d) }
 {
-    match d {
-        Number::Plain { value, place } => {
-            Constant::Found {
-                value: value,
-                width: (shortest_form(value as u64) + 1) as u16,
-                place: place,
-            }
-        }
-        Number::Unread => Constant::Missing,
+    Constant {
+        value: d.value,
+        width: (shortest_form(d.value as u64) + 1) as u16,
+        place: d.place,
     }
 }
 
-// The constant at a place of a line: its value, its width and the place after it, or that none is there.
-pub fn constant_at(s: &[u8], at: usize) -> Constant
+// The constant at a place of a line: its value, its width and the place after it, if one is there.
+pub fn constant_at(s: &[u8], at: usize) -> Option<Constant>
     ensures { result ≡ constant_at s.now at }
 {
-    if s.len() <= at {
-        return Constant::Missing;
-    }
-    let mark = s[at];
+    let mark = *s.get(at)?;
     if mark == b'\'' {
         return marked_at(s, at + 1, Class::Binary, 2, 1, BINARY_DIGITS);
     }
     if mark == b'#' {
         return marked_at(s, at + 1, Class::Octal, 8, 3, OCTAL_DIGITS);
     }
-    from_decimal(decimal_at(s, at))
+    Some(from_decimal(decimal_at(s, at)?))
 }

@@ -8,6 +8,7 @@ use native.Mathlib.Omega.{arith}
 use lib.Dec.{eqb, ltb}
 use lib.ListN.{length, take, drop}
 use borrow.Author.Tests.{lt-ltb, le-ltb}
+use Rattle.std.specs.Prelude.{Result, Ok, Err}
 use Rattle.text_fields.specs.Fields.{field, has_fields}
 use Rattle.characters.specs.Named.{Named}
 use Rattle.text_names.specs.Dictionaries.{entries, Added}
@@ -17,8 +18,6 @@ use Rattle.text_names.proofs.Entries.{entries_length}
 use Rattle.text_declaration.specs.declared.faults.Fault.{Fault}
 use Rattle.text_declaration.specs.declared.faults.Fault.TheVariants.{Line, Register, Label, Limit}
 use Rattle.text_declaration.specs.declared.lines.Progress as code
-use Rattle.text_declaration.specs.declared.lines.Status.TheVariants.{Goes, Refused}
-use Rattle.text_declaration.specs.declared.lines.Step as taken
 use Rattle.text_declaration.specs.Rows.{Row}
 use Rattle.text_limits.specs.Limits.{most_registers, most_labels}
 use Rattle.text_declaration.specs.Lines.{Progress, Step, with_register, with_label, refused, next, width_of, is_width, is_new_name, is_new_label, unbegun, add_register, reg_line, add_label, at_line}
@@ -33,24 +32,15 @@ module _ (text : List ℕ) (d : Dictionary) (n : ℕ) where
   full h = le-ltb (length (entries text d)) n (subst (λ (k : ℕ). n ≤ k) (sym (entries_length text d)) h)
 
 -- a refused line
-pub plain_refused : (text : List ℕ) (g : Progress → Step) (q : code.Progress) (f : Fault) (r : taken.Step) → r ≡ record { progress = q; status = Refused f }
-    → ((rs : List Row) → q.rows ≡ length rs → g (progress_of text q rs) ≡ refused f) → Within q → Plain text g q r
-plain_refused text g q f r e is h =
-    subst (λ (x : taken.Step). Plain text g q x) (sym e) (record { is = is; same_rows = refl; same_words = refl; same_pieces = refl; same_missing = refl; within = h })
+pub plain_refused : (text : List ℕ) (g : Progress → Step) (q : code.Progress) (f : Fault)
+    → ((rs : List Row) → q.rows ≡ length rs → g (progress_of text q rs) ≡ refused f) → Plain text g q (Err f)
+plain_refused text g q f is = record { is = is; stays = tt }
 
 -- a line whose definition says the same
-pub plain_as : (text : List ℕ) (f g : Progress → Step) (q : code.Progress) (r : taken.Step)
+pub plain_as : (text : List ℕ) (f g : Progress → Step) (q : code.Progress) (r : Result code.Progress Fault)
     → ((rs : List Row) → q.rows ≡ length rs → f (progress_of text q rs) ≡ g (progress_of text q rs))
     → Plain text g q r → Plain text f q r
-plain_as text f g q r e p =
-    record {
-      is = λ rs counted. e rs counted ∙ p.is rs counted;
-      same_rows = p.same_rows;
-      same_words = p.same_words;
-      same_pieces = p.same_pieces;
-      same_missing = p.same_missing;
-      within = p.within;
-    }
+plain_as text f g q r e p = record { is = λ rs counted. e rs counted ∙ p.is rs counted; stays = p.stays }
 
 -- registers: whether a name and a width declare a new one
 abbrev new_register : List Named → List ℕ → List ℕ → Bool
@@ -85,33 +75,32 @@ module _ (text s w : List ℕ) (q : code.Progress) (h : Within q) where
   registered e =
       record { registers = e; labels = q.labels; rows = q.rows; words = q.words; pieces = q.pieces; missing = q.missing }
 
-  pub one_register : (e : Dictionary) (start n : ℕ) (r : taken.Step) → new_register (entries text q.registers) s w ≡ true → q.registers.count < most_registers
-      → Added q.registers start (length s) n e → s ≡ take (length s) (drop start text) → n ≡ width_of (decimal_at w 0) → r ≡ record { progress = registered e; status = Goes }
-      → Plain text (λ (p : Progress). add_register p s w) q r
-  one_register e start n r t few a at k is =
-      subst (λ (x : taken.Step). Plain text (λ (p : Progress). add_register p s w) q x) (sym is)
-      (record {
+  pub one_register : (e : Dictionary) (start n : ℕ) → new_register (entries text q.registers) s w ≡ true → q.registers.count < most_registers
+      → Added q.registers start (length s) n e → s ≡ take (length s) (drop start text) → n ≡ width_of (decimal_at w 0)
+      → Plain text (λ (p : Progress). add_register p s w) q (Ok (registered e))
+  one_register e start n t few a at k =
+      record {
         is = λ rs counted.
             register_taken (progress_of text q rs) s w t (room text q.registers most_registers few)
             ∙ ap (λ (es : List Named). next (registers_are (progress_of text q rs) s w es)) (sym (one_name text s q.registers e start n (width_of (decimal_at w 0)) a at k));
-        same_rows = refl;
-        same_words = refl;
-        same_pieces = refl;
-        same_missing = refl;
-        within = record { few_registers = omega (arith, a.count, few); few_labels = h.few_labels; few_rows = h.few_rows; few_words = h.few_words; few_pieces = h.few_pieces };
-      })
+        stays = record {
+          same_rows = refl;
+          same_words = refl;
+          same_pieces = refl;
+          same_missing = refl;
+          within = record { few_registers = omega (arith, a.count, few); few_labels = h.few_labels; few_rows = h.few_rows; few_words = h.few_words; few_pieces = h.few_pieces };
+        };
+      }
 
-  pub no_register : (r : taken.Step) → new_register (entries text q.registers) s w ≡ true → most_registers ≤ q.registers.count
-      → r ≡ record { progress = q; status = Refused Limit } → Plain text (λ (p : Progress). add_register p s w) q r
-  no_register r t f is =
-      plain_refused text (λ (p : Progress). add_register p s w) q Limit r is
+  pub no_register : new_register (entries text q.registers) s w ≡ true → most_registers ≤ q.registers.count
+      → Plain text (λ (p : Progress). add_register p s w) q (Err Limit)
+  no_register t f =
+      plain_refused text (λ (p : Progress). add_register p s w) q Limit
       (λ rs counted. register_full (progress_of text q rs) s w t (full text q.registers most_registers f))
-      h
 
-  pub bad_register : (r : taken.Step) → new_register (entries text q.registers) s w ≡ false → r ≡ record { progress = q; status = Refused Register }
-      → Plain text (λ (p : Progress). add_register p s w) q r
-  bad_register r t is =
-      plain_refused text (λ (p : Progress). add_register p s w) q Register r is (λ rs counted. register_bad (progress_of text q rs) s w t) h
+  pub bad_register : new_register (entries text q.registers) s w ≡ false → Plain text (λ (p : Progress). add_register p s w) q (Err Register)
+  bad_register t =
+      plain_refused text (λ (p : Progress). add_register p s w) q Register (λ rs counted. register_bad (progress_of text q rs) s w t)
 
 -- labels
 module _ (p : Progress) (s : List ℕ) where
@@ -139,32 +128,29 @@ module _ (text s : List ℕ) (q : code.Progress) (h : Within q) where
   labelled e =
       record { registers = q.registers; labels = e; rows = q.rows; words = q.words; pieces = q.pieces; missing = q.missing }
 
-  pub one_label : (e : Dictionary) (start : ℕ) (r : taken.Step) → new_label ≡ true → q.labels.count < most_labels → Added q.labels start (length s) 0 e
-      → s ≡ take (length s) (drop start text) → r ≡ record { progress = labelled e; status = Goes }
-      → Plain text (λ (p : Progress). add_label p s) q r
-  one_label e start r t few a at is =
-      subst (λ (x : taken.Step). Plain text (λ (p : Progress). add_label p s) q x) (sym is)
-      (record {
+  pub one_label : (e : Dictionary) (start : ℕ) → new_label ≡ true → q.labels.count < most_labels → Added q.labels start (length s) 0 e
+      → s ≡ take (length s) (drop start text) → Plain text (λ (p : Progress). add_label p s) q (Ok (labelled e))
+  one_label e start t few a at =
+      record {
         is = λ rs counted.
             label_taken (progress_of text q rs) s t (room text q.labels most_labels few)
             ∙ ap (λ (es : List Named). next (labels_are (progress_of text q rs) s es)) (sym (one_name text s q.labels e start 0 0 a at refl));
-        same_rows = refl;
-        same_words = refl;
-        same_pieces = refl;
-        same_missing = refl;
-        within = record { few_registers = h.few_registers; few_labels = omega (arith, a.count, few); few_rows = h.few_rows; few_words = h.few_words; few_pieces = h.few_pieces };
-      })
+        stays = record {
+          same_rows = refl;
+          same_words = refl;
+          same_pieces = refl;
+          same_missing = refl;
+          within = record { few_registers = h.few_registers; few_labels = omega (arith, a.count, few); few_rows = h.few_rows; few_words = h.few_words; few_pieces = h.few_pieces };
+        };
+      }
 
-  pub no_label : (r : taken.Step) → new_label ≡ true → most_labels ≤ q.labels.count → r ≡ record { progress = q; status = Refused Limit }
-      → Plain text (λ (p : Progress). add_label p s) q r
-  no_label r t f is =
-      plain_refused text (λ (p : Progress). add_label p s) q Limit r is
+  pub no_label : new_label ≡ true → most_labels ≤ q.labels.count → Plain text (λ (p : Progress). add_label p s) q (Err Limit)
+  no_label t f =
+      plain_refused text (λ (p : Progress). add_label p s) q Limit
       (λ rs counted. label_full (progress_of text q rs) s t (full text q.labels most_labels f))
-      h
 
-  pub bad_label : (r : taken.Step) → new_label ≡ false → r ≡ record { progress = q; status = Refused Label }
-      → Plain text (λ (p : Progress). add_label p s) q r
-  bad_label r t is = plain_refused text (λ (p : Progress). add_label p s) q Label r is (λ rs counted. label_bad (progress_of text q rs) s t) h
+  pub bad_label : new_label ≡ false → Plain text (λ (p : Progress). add_label p s) q (Err Label)
+  bad_label t = plain_refused text (λ (p : Progress). add_label p s) q Label (λ rs counted. label_bad (progress_of text q rs) s t)
 
 -- whether there were `reg` lines alone, by the code's numbers
 pub unbegun_is : (text : List ℕ) (q : code.Progress) (rs : List Row) → q.rows ≡ length rs → unbegun (progress_of text q rs) ≡ eqb (q.labels.count + q.rows) 0

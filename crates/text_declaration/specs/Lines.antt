@@ -1,7 +1,7 @@
 -- The lines that declare something, one by one: what each adds to what was read so far, or what it is turned down for.
 -- "Lines are taken in order; within one, lower numbers first, left field first." The lines of rows are those of crate text_rows.
 -- Assumes nothing.
-use Rattle.std.specs.Prelude.{ℕ, ◌+◌, Bool, true, false, not, ◌&&◌, List, [], ◌∷◌, ◌++◌, eqb, leb, ltb, length}
+use Rattle.std.specs.Prelude.{ℕ, ◌+◌, Bool, true, false, not, ◌&&◌, List, [], ◌∷◌, ◌++◌, eqb, leb, ltb, length, Option, Some, None}
 use Rattle.word.specs.Word.{widest}
 use Rattle.characters.specs.Ascii.{ascii}
 use Rattle.text_fields.specs.Fields.{field, has_fields}
@@ -9,7 +9,6 @@ use Rattle.characters.specs.Named.{Named, among}
 use Rattle.text_names.specs.Names.{is_name}
 use Rattle.text_constants.specs.Constants.{decimal_at}
 use Rattle.text_constants.specs.declared.Number.{Number}
-use Rattle.text_constants.specs.declared.Number.TheVariants.{Plain, Unread}
 use Rattle.text_operators.specs.OperatorNames.{is_reserved}
 use Rattle.text_declaration.specs.declared.faults.Fault.{Fault}
 use Rattle.text_declaration.specs.declared.faults.Fault.TheVariants.{Line, Register, Label, Limit}
@@ -56,13 +55,13 @@ kept true f x = x
 kept false f x = refused f
 
 -- "width (1 to 16, no leading zero)", which is the whole field
-abbrev pub is_width : List ℕ → Number → Bool
-is_width s (Plain w end) = leb 1 w && leb w widest && eqb end (length s)
-is_width s Unread = false
+abbrev pub is_width : List ℕ → Option Number → Bool
+is_width s (Some d) = leb 1 d.value && leb d.value widest && eqb d.place (length s)
+is_width s None = false
 
-abbrev pub width_of : Number → ℕ
-width_of (Plain w end) = w
-width_of Unread = 0
+abbrev pub width_of : Option Number → ℕ
+width_of (Some d) = d.value
+width_of None = 0
 
 -- "a name that is malformed, reserved or repeated"
 abbrev pub is_new_name : List Named → List ℕ → Bool

@@ -1,6 +1,6 @@
 -- The laws of one line: where it stands in the text, and what it comes to by its first word.
 -- Assumes nothing.
-use mathlib.Core.Path.{◌≡◌, sym, ap, ◌∙◌}
+use mathlib.Core.Path.{◌≡◌, sym, ap, subst, ◌∙◌}
 use mathlib.Core.Bool.{Bool, true, false, ◌&&◌}
 use mathlib.Core.List.{List}
 use Prim.Native.Nat.{ℕ, ◌+◌, ◌-◌, ◌≤◌}
@@ -8,23 +8,25 @@ use native.Mathlib.Omega.{arith}
 use lib.Dec.{eqb, leb, ltb}
 use lib.ListN.{length, take, drop}
 use borrow.Author.Tests.{leb-true}
+use Rattle.std.specs.Prelude.{Option, Result, Err}
 use Rattle.characters.specs.Characters.{run, same}
 use Rattle.characters.specs.declared.Class.TheVariants.{Other, Printable}
 use Rattle.text_fields.specs.Fields as fields
 use Rattle.characters.specs.Ascii.{line_feed}
 use Rattle.text_fields.specs.Fields.{until, before, after, lines, field}
 use Rattle.text_fields.specs.Rests.{first_line, Rest}
+use Rattle.text_fields.specs.Steps.{Stands}
+use Rattle.text_fields.specs.declared.by_line.Line as by_line
 use Rattle.laws.proofs.Joined.{and_left, and_right}
 use Rattle.characters.proofs.Runs.{run_le}
 use Rattle.characters.proofs.Strings.{equal}
 use Rattle.text_fields.proofs.Lines.{before_length}
 use Rattle.text_declaration.specs.declared.faults.Fault.TheVariants.{Line}
 use Rattle.text_declaration.specs.declared.lines.Progress as code
-use Rattle.text_declaration.specs.declared.lines.Status.TheVariants.{Refused}
-use Rattle.text_declaration.specs.declared.lines.Step as taken
+use Rattle.text_declaration.specs.declared.faults.Fault.{Fault}
 use Rattle.text_limits.specs.Limits.{longest_line}
 use Rattle.text_declaration.specs.Lines.{reg_word, do_word, go_word, at_word, Progress, Step, refused, reg_line, at_line}
-use Rattle.text_declaration.specs.Stored.{progress_of, Within}
+use Rattle.text_declaration.specs.Stored.{progress_of}
 use Rattle.text_rows.specs.Lines.{do_line, go_line}
 use Rattle.text_targets.specs.Targets.{passes, is_missing, lacks_label}
 use Rattle.text_rows.specs.Stored.{Takes, first_gone}
@@ -86,6 +88,13 @@ line_fits text rest line r h e = omega (arith, r.fits, h, ap length e ∙ before
 abbrev found : List ℕ → List ℕ → fields.Line
 found rest line = record { bytes = line; ended = ltb (until line_feed rest) (length rest) }
 
+-- a line that stands first in the text from it on: its bytes, and whether it is fit
+pub first_bytes : (l : by_line.Line) → Stands l → l.bytes.now ≡ before line_feed l.rest.now
+first_bytes l s = ap (λ (z : fields.Line). z.bytes) s.line_is
+
+pub fit_as : (l : by_line.Line) → Stands l → is_fit (found l.rest.now l.bytes.now) ≡ is_fit (record { bytes = l.bytes.now; ended = l.ended })
+fit_as l s = ap (λ (b : Bool). is_fit (record { bytes = l.bytes.now; ended = b })) (sym (ap (λ (z : fields.Line). z.ended) s.line_is))
+
 -- a fit line is short
 pub fit_length : (rest line : List ℕ) → is_fit (found rest line) ≡ true → length line ≤ longest_line
 fit_length rest line e =
@@ -94,7 +103,7 @@ fit_length rest line e =
     (and_right b (leb (length line) longest_line) (and_left (b && leb (length line) longest_line) (eqb (run Printable line) (length line)) e))
 
 -- what it comes to, by its first word: what is read of a line above the lines below it, and that the code's answer is what a definition says
-module _ (text : List ℕ) (q : code.Progress) (n : ℕ) (rest line : List ℕ) (first : line ≡ before line_feed rest) (r : taken.Step) (code₁ code₂ table₁ table₂ : List ℕ) where
+module _ (text : List ℕ) (q : code.Progress) (n : ℕ) (rest line : List ℕ) (first : line ≡ before line_feed rest) (r : Result code.Progress Fault) (code₁ code₂ table₁ table₂ : List ℕ) where
   abbrev below : List fields.Line
   below = lines (after line_feed rest)
 
@@ -102,10 +111,10 @@ module _ (text : List ℕ) (q : code.Progress) (n : ℕ) (rest line : List ℕ) 
   reads l p = read_line p below l
 
   -- the line of the first `go` without its label, with this line
-  abbrev gone : ℕ
+  abbrev gone : Option ℕ
   gone = first_gone (lacks_label (before line_feed rest) below) n q.missing
 
-  abbrev Comes : (Progress → Step) → ℕ → Type 0
+  abbrev Comes : (Progress → Step) → Option ℕ → Type 0
   Comes g m = Takes text g m q r code₁ code₂ table₁ table₂
 
   not_gone : same (field 0 line) go_word ≡ false → gone ≡ q.missing
@@ -122,14 +131,16 @@ module _ (text : List ℕ) (q : code.Progress) (n : ℕ) (rest line : List ℕ) 
   as_found : (p : Progress) → reads (first_line rest) p ≡ reads (found rest line) p
   as_found p = ap (λ (l : List ℕ). reads (found rest l) p) (sym first)
 
-  comes_as : (g : Progress → Step) (m : ℕ) → gone ≡ m → ((p : Progress) → reads (found rest line) p ≡ g p) → Comes g m → Comes (reads (first_line rest)) gone
+  comes_as : (g : Progress → Step) (m : Option ℕ) → gone ≡ m → ((p : Progress) → reads (found rest line) p ≡ g p) → Comes g m → Comes (reads (first_line rest)) gone
   comes_as g m i e = takes_as text (reads (first_line rest)) g m gone q r (λ rs. as_found (progress_of text q rs) ∙ e (progress_of text q rs)) i
 
-  comes_refused : ((p : Progress) → reads (found rest line) p ≡ refused Line) → r ≡ record { progress = q; status = Refused Line } → Within q
+  comes_refused : ((p : Progress) → reads (found rest line) p ≡ refused Line) → r ≡ Err Line
       → Comes (reads (first_line rest)) gone
-  comes_refused e is h = takes_refused text (reads (first_line rest)) gone q Line r is (λ rs. as_found (progress_of text q rs) ∙ e (progress_of text q rs)) h
+  comes_refused e is =
+      subst (λ (x : Result code.Progress Fault). Takes text (reads (first_line rest)) gone q x code₁ code₂ table₁ table₂) (sym is)
+      (takes_refused text (reads (first_line rest)) gone q Line (λ rs. as_found (progress_of text q rs) ∙ e (progress_of text q rs)))
 
-  pub comes_unfit : is_fit (found rest line) ≡ false → r ≡ record { progress = q; status = Refused Line } → Within q → Comes (reads (first_line rest)) gone
+  pub comes_unfit : is_fit (found rest line) ≡ false → r ≡ Err Line → Comes (reads (first_line rest)) gone
   comes_unfit e = comes_refused (λ p. line_unfit p below (found rest line) e)
 
   module _ (e : is_fit (found rest line) ≡ true) (word : List ℕ) (zeroth : word ≡ field 0 line) where
@@ -160,7 +171,7 @@ module _ (text : List ℕ) (q : code.Progress) (n : ℕ) (rest line : List ℕ) 
               comes_as (λ p. at_line p line) q.missing (not_gone (is_word_lem go_word false d))
               (λ p. line_at p below (found rest line) e (is_word_lem reg_word false a) (is_word_lem do_word false b) (is_word_lem go_word false d) (is_word_lem at_word true g))
 
-          pub comes_unknown : same word at_word ≡ false → r ≡ record { progress = q; status = Refused Line } → Within q → Comes (reads (first_line rest)) gone
+          pub comes_unknown : same word at_word ≡ false → r ≡ Err Line → Comes (reads (first_line rest)) gone
           comes_unknown g =
               comes_refused
               (λ p. line_unknown p below (found rest line) e (is_word_lem reg_word false a) (is_word_lem do_word false b) (is_word_lem go_word false d) (is_word_lem at_word false g))

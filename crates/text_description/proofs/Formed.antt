@@ -8,6 +8,7 @@ use native.Mathlib.Omega.{arith}
 use lib.Dec.{eqb, leb, ltb}
 use lib.ListN.{length, length-append}
 use borrow.Author.Tests.{eqb-true, ltb-true, leb-true}
+use Rattle.std.specs.Prelude.{Option, Some, None}
 use Rattle.word.specs.Word.{widest}
 use Rattle.word.specs.Choice.{pick}
 use Rattle.characters.specs.Characters.{same}
@@ -19,7 +20,7 @@ use Rattle.characters.specs.Named.{Named}
 use Rattle.text_names.specs.Names.{is_name}
 use Rattle.text_constants.specs.Constants.{decimal_at}
 use Rattle.text_constants.specs.declared.Number.{Number}
-use Rattle.text_constants.specs.declared.Number.TheVariants.{Plain, Unread}
+use Rattle.std.specs.Prelude.{Option, Some, None}
 use Rattle.text_rows.proofs.Tables.{pieces_snoc}
 use Rattle.laws.proofs.Tests.{by_case}
 use Rattle.characters.proofs.Strings.{equal}
@@ -31,8 +32,6 @@ use Rattle.text_expression.proofs.Formed.{expression_formed, destination_formed}
 use Rattle.text_declaration.specs.declared.faults.Fault.{Fault}
 use Rattle.text_declaration.specs.declared.faults.Fault.TheVariants as fault
 use Rattle.text_declaration.specs.declared.faults.Fault.TheVariants.{Size, Header, Register, Label, Limit, Run}
-use Rattle.text_targets.specs.declared.Target.{Target}
-use Rattle.text_targets.specs.declared.Target.TheVariants.{Passes, Missing}
 use Rattle.text_declaration.specs.Rows.{Row, does, goes, row_pieces, pieces_of, Description}
 use Rattle.text_limits.specs.Limits.{most_bytes, most_registers, most_rows, most_labels, all_pieces}
 use Rattle.text_declaration.specs.Lines.{reg_word, do_word, go_word, at_word, Progress, Step, refused, next, kept, width_of, is_width, is_new_name, add_register, unbegun, reg_line, is_new_label, add_label, at_line}
@@ -69,17 +68,17 @@ module _ (l : Line) (ls : List Line) where
   label_uncounted e = rw (e, labels_in)
 
 -- a `go` passes over rows that are there
-further_le : (t : Target) (n : ℕ) → rows_passed t ≤ n → rows_passed (further 1 t) ≤ suc n
-further_le (Passes k) n h = omega arith
-further_le Missing n h = omega arith
+further_le : (t : Option ℕ) (n : ℕ) → rows_passed t ≤ n → rows_passed (further 1 t) ≤ suc n
+further_le (Some k) n h = omega arith
+further_le None n h = omega arith
 
 passes_le : (label : List ℕ) (ls : List Line) → rows_passed (passes label ls) ≤ rows_in ls
 unfolding passes rows_in
 passes_le label [] = omega arith
 passes_le label (l ∷ ls) =
-    by_case (λ (t : Target). rows_passed t ≤ rows_in (l ∷ ls)) (is_at label l.bytes) (λ e. omega arith)
+    by_case (λ (t : Option ℕ). rows_passed t ≤ rows_in (l ∷ ls)) (is_at label l.bytes) (λ e. omega arith)
     (λ e.
-    by_case (λ (t : Target). rows_passed t ≤ rows_in (l ∷ ls)) (is_row l.bytes)
+    by_case (λ (t : Option ℕ). rows_passed t ≤ rows_in (l ∷ ls)) (is_row l.bytes)
     (λ f. subst (λ (n : ℕ). rows_passed (further 1 (passes label ls)) ≤ n) (sym (row_counted l ls f)) (further_le (passes label ls) (rows_in ls) (passes_le label ls)))
     (λ f. subst (λ (n : ℕ). rows_passed (passes label ls) ≤ n) (sym (row_uncounted l ls f)) (passes_le label ls)))
 
@@ -110,11 +109,11 @@ no_row_yet [] n e = refl
 no_row_yet (r ∷ rows) n e = absurd (omega (arith, eqb-true (n + length (r ∷ rows)) 0 e))
 
 -- a width that is one
-width_fits : (w : List ℕ) (n : Number) → is_width w n ≡ true → (1 ≤ width_of n) × (width_of n ≤ widest)
-width_fits w (Plain v end) e =
-    let k = and_left (leb 1 v && leb v widest) (eqb end (length w)) e in
-    (leb-true 1 v (and_left (leb 1 v) (leb v widest) k), leb-true v widest (and_right (leb 1 v) (leb v widest) k))
-width_fits w Unread e = absurd (mathlib.Core.Bool.false≢true e)
+width_fits : (w : List ℕ) (n : Option Number) → is_width w n ≡ true → (1 ≤ width_of n) × (width_of n ≤ widest)
+width_fits w (Some d) e =
+    let k = and_left (leb 1 d.value && leb d.value widest) (eqb d.place (length w)) e in
+    (leb-true 1 d.value (and_left (leb 1 d.value) (leb d.value widest) k), leb-true d.value widest (and_right (leb 1 d.value) (leb d.value widest) k))
+width_fits w None e = absurd (mathlib.Core.Bool.false≢true e)
 
 -- what holds of what was read so far, above the lines that are left; `all` counts the labels of the text
 record Kept (all : ℕ) (p : Progress) (ls : List Line) : Type 0 where

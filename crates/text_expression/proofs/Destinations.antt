@@ -8,6 +8,7 @@ use native.Mathlib.Nat.{sub-zero}
 use lib.Dec.{eqb, leb}
 use lib.ListN.{length, get_or, take, drop}
 use borrow.Author.Tests.{eq-eqb, ne_eqb}
+use Rattle.std.specs.Prelude.{Option, Some, None}
 use Rattle.characters.specs.Characters.{run_end, same}
 use Rattle.characters.specs.Named.{Named}
 use Rattle.characters.specs.declared.Class.TheVariants as class
@@ -19,34 +20,33 @@ use Rattle.text_tokens.specs.Signs.{square_open, square_close, memory_token}
 use Rattle.text_tokens.proofs.Tokens.{at_mark, off_mark}
 use Rattle.text_bit_parts.specs.References.{reference_at}
 use Rattle.text_code.specs.declared.Cursor.{Cursor}
-use Rattle.text_code.specs.declared.Part.TheVariants.{Fault}
 use Rattle.text_expression.specs.declared.Place.{Place}
-use Rattle.text_expression.specs.declared.Place.TheVariants.{Register, Bits, Word, Nowhere}
+use Rattle.text_expression.specs.declared.Place.TheVariants.{Register, Bits, Word}
 use Rattle.text_code.specs.Tree.{Expr, pieces, most_pieces, to_register, to_part, to_memory}
 use Rattle.text_code.specs.Readings.{Reading, read, outside, DestinationReading, leads, astray}
 use Rattle.text_grammar.specs.Grammar.{level, fuel}
 use Rattle.text_expression.specs.Fields.{trimmed}
 use Rattle.text_expression.specs.Expression.{of_name, of_address, memory_at, destination}
-use Rattle.text_code.specs.Met.{Held, Meets}
+use Rattle.text_code.specs.Met.{Held, Meets, part}
 use Rattle.text_expression.specs.Met.{Aims, Points, Addressed}
 use Rattle.text_grammar.proofs.Calls.{at, faulty}
 use Rattle.text_expression.proofs.WholeFields.{few_pieces}
 
 -- names
 module _ (s : List ℕ) (r w p : ℕ) where
-  pub to_register_lem : p ≡ length s → of_name s (Whole r w p) ≡ leads (to_register r w)
+  pub to_register_lem : p ≡ length s → of_name s (Some (Whole r w p)) ≡ leads (to_register r w)
   unfolding of_name
   to_register_lem e = rw (eq-eqb p (length s) e, of_name)
 
-  pub not_register : (p ≡ length s → ⊥) → of_name s (Whole r w p) ≡ astray
+  pub not_register : (p ≡ length s → ⊥) → of_name s (Some (Whole r w p)) ≡ astray
   unfolding of_name
   not_register e = rw (ne_eqb p (length s) e, of_name)
 
-  pub to_part_lem : (a b : ℕ) → p ≡ length s → of_name s (Part r w a b p) ≡ leads (to_part r w a b)
+  pub to_part_lem : (a b : ℕ) → p ≡ length s → of_name s (Some (Part r w a b p)) ≡ leads (to_part r w a b)
   unfolding of_name
   to_part_lem a b e = rw (eq-eqb p (length s) e, of_name)
 
-  pub not_part : (a b : ℕ) → (p ≡ length s → ⊥) → of_name s (Part r w a b p) ≡ astray
+  pub not_part : (a b : ℕ) → (p ≡ length s → ⊥) → of_name s (Some (Part r w a b p)) ≡ astray
   unfolding of_name
   not_part a b e = rw (ne_eqb p (length s) e, of_name)
 
@@ -68,7 +68,7 @@ module _ (s : List ℕ) (c from : Cursor) where
   ends q = eqb (next s q) square_close && eqb (skip s q + 1) (length s) && leb c.pieces (from.pieces + most_pieces)
 
   -- the definition's test is the code's
-  same_test : (t : Expr) (p w : ℕ) (before after : List ℕ) → Held t p c w from before after → shut s t p ≡ ends c.place
+  same_test : (t : Expr) (p w : ℕ) (before after : List ℕ) → Held t p (part c w) from before after → shut s t p ≡ ends c.place
   same_test t p w before after h =
       ap (λ (b : Bool). eqb (next s p) square_close && eqb (skip s p + 1) (length s) && b) (few_pieces from.pieces (pieces t) c.pieces h.pieces_are)
       ∙ ap ends (sym h.place_is)
@@ -78,7 +78,7 @@ module _ (s : List ℕ) (c from : Cursor) where
       → ends c.place ≡ eqb x square_close && eqb (q + 1) (length s) && leb c.pieces (from.pieces + most_pieces)
   as_found q x e f = rw (f, e)
 
-  pub addressed : ends c.place ≡ true → Addressed s c (Word c) from
+  pub addressed : ends c.place ≡ true → Addressed s c (Some (Word c)) from
   addressed u (read t p) w before after few less h =
       record {
         tree = t;
@@ -91,29 +91,29 @@ module _ (s : List ℕ) (c from : Cursor) where
       }
   addressed u outside w before after few less h = absurd h
 
-  pub unaddressed : ends c.place ≡ false → Addressed s c Nowhere from
+  pub unaddressed : ends c.place ≡ false → Addressed s c None from
   unaddressed u (read t p) w before after few less h = no_address s t p (same_test t p w before after h ∙ u)
   unaddressed u outside w before after few less h = absurd h
 
 -- an address that has a fault
-pub address_fault : (s : List ℕ) (x : Reading) (from : Cursor) (before after : List ℕ) → Meets x Fault from before after → of_address s x ≡ astray
+pub address_fault : (s : List ℕ) (x : Reading) (from : Cursor) (before after : List ℕ) → Meets x None from before after → of_address s x ≡ astray
 unfolding of_address
 address_fault s x from before after m = ap (of_address s) (faulty x from before after m)
 
 -- a destination that is known, from a cursor whose place doesn't count
-pub aimed : (r : Place) (x y : DestinationReading) (s : List ℕ) (from : Cursor) (q : ℕ) (before after : List ℕ) → x ≡ y → Aims r y s (at from q) before after → Aims r x s from before after
-aimed (Register r w) x y s from q before after e m = (e ∙ m.0, m.1)
-aimed (Bits r w a b) x y s from q before after e m = (e ∙ m.0, m.1)
-aimed (Word c) x y s from q before after e m =
+pub aimed : (r : Option Place) (x y : DestinationReading) (s : List ℕ) (from : Cursor) (q : ℕ) (before after : List ℕ) → x ≡ y → Aims r y s (at from q) before after → Aims r x s from before after
+aimed (Some (Register r w)) x y s from q before after e m = (e ∙ m.0, m.1)
+aimed (Some (Bits r w a b)) x y s from q before after e m = (e ∙ m.0, m.1)
+aimed (Some (Word c)) x y s from q before after e m =
     record { tree = m.tree; is = e ∙ m.is; pieces_are = m.pieces_are; words_are = m.words_are; code_is = m.code_is; words_few = m.words_few; pieces_few = m.pieces_few }
-aimed Nowhere x y s from q before after e m = e ∙ m
+aimed None x y s from q before after e m = e ∙ m
 
 -- the destination that a name is, which leaves the table as it was
-pub pointed : (r : Place) (x y : DestinationReading) (s : List ℕ) (from : Cursor) (before : List ℕ) → x ≡ y → Points r y → Aims r x s from before before
-pointed (Register r w) x y s from before e m = (e ∙ m, refl)
-pointed (Bits r w a b) x y s from before e m = (e ∙ m, refl)
-pointed (Word c) x y s from before e m = absurd m
-pointed Nowhere x y s from before e m = e ∙ m
+pub pointed : (r : Option Place) (x y : DestinationReading) (s : List ℕ) (from : Cursor) (before : List ℕ) → x ≡ y → Points r y → Aims r x s from before before
+pointed (Some (Register r w)) x y s from before e m = (e ∙ m, refl)
+pointed (Some (Bits r w a b)) x y s from before e m = (e ∙ m, refl)
+pointed (Some (Word c)) x y s from before e m = absurd m
+pointed None x y s from before e m = e ∙ m
 
 module _ (rs : List Named) (s : List ℕ) where
   -- behind an M, by the place where the next token starts and the byte there
@@ -136,7 +136,7 @@ module _ (rs : List Named) (s : List ℕ) where
     unfolding destination
     to_memory_lem h = rw (ends, trims, token_is true h, destination)
 
-    pub to_name : same token memory_token ≡ false → (x : Reference) → x ≡ reference_at rs s 0 → destination rs s ≡ of_name s x
+    pub to_name : same token memory_token ≡ false → (x : Option Reference) → x ≡ reference_at rs s 0 → destination rs s ≡ of_name s x
     unfolding destination
     to_name h x i = rw (i, trims, token_is false h, destination)
 

@@ -9,6 +9,7 @@ use native.Mathlib.Omega.{arith}
 use lib.Dec.{eqb, leb, ltb}
 use lib.ListN.{length, get_or}
 use borrow.Author.Tests.{eq-eqb, eqb-true, le-leb, leb-true, ltb-true, ltb-false}
+use Rattle.std.specs.Prelude.{Option, Some, None}
 use Rattle.laws.proofs.Tests.{by_test, by_case}
 use Rattle.laws.proofs.Joined.{and_left, and_right}
 use Rattle.characters.specs.Ascii.{ascii, byte_of}
@@ -25,7 +26,7 @@ use Rattle.text_bit_parts.specs.References.{reference_at}
 use Rattle.text_bit_parts.proofs.Onward.{word_of_letter}
 use Rattle.text_bit_parts.proofs.Refers.{whole_referred, part_referred, refers_read}
 use Rattle.text_bit_parts.specs.declared.Reference.{Reference}
-use Rattle.text_bit_parts.specs.declared.Reference.TheVariants.{Whole, Part, Unknown}
+use Rattle.text_bit_parts.specs.declared.Reference.TheVariants.{Whole, Part}
 use Rattle.text_code.specs.Tree.{Expr, pieces, most_pieces, Destination}
 use Rattle.text_code.specs.Readings.{Reading, read, outside, DestinationReading, leads, astray}
 use Rattle.text_grammar.specs.Says.{Says}
@@ -126,13 +127,13 @@ module _ (rs : List Named) (s : List ℕ) where
   Leads (leads d) = IsDestination rs s d
   Leads astray = Unit {0}
 
-  name_said : trimmed s ≡ true → (token s 0 ≡ ascii "M" → ⊥) → (x : Reference) → reference_at rs s 0 ≡ x → Leads (of_name s x)
+  name_said : trimmed s ≡ true → (token s 0 ≡ ascii "M" → ⊥) → (x : Option Reference) → reference_at rs s 0 ≡ x → Leads (of_name s x)
   unfolding of_name
-  name_said e n (Whole r w p) h =
-      by_case Leads (eqb p (length s)) (λ t. names_register e n (whole_referred rs s 0 r w (length s) (h ∙ ap (λ (q : ℕ). Whole r w q) (eqb-true p (length s) t)))) (λ t. tt)
-  name_said e n (Part r w a b p) h =
-      by_case Leads (eqb p (length s)) (λ t. names_part e n (part_referred rs s 0 r w a b (length s) (h ∙ ap (λ (q : ℕ). Part r w a b q) (eqb-true p (length s) t)))) (λ t. tt)
-  name_said e n Unknown h = tt
+  name_said e n (Some (Whole r w p)) h =
+      by_case Leads (eqb p (length s)) (λ t. names_register e n (whole_referred rs s 0 r w (length s) (h ∙ ap (λ (q : ℕ). Some (Whole r w q)) (eqb-true p (length s) t)))) (λ t. tt)
+  name_said e n (Some (Part r w a b p)) h =
+      by_case Leads (eqb p (length s)) (λ t. names_part e n (part_referred rs s 0 r w a b (length s) (h ∙ ap (λ (q : ℕ). Some (Part r w a b q)) (eqb-true p (length s) t)))) (λ t. tt)
+  name_said e n None h = tt
 
   abbrev inner : ℕ
   inner = skip s (word_end s 0) + 1

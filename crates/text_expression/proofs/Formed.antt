@@ -8,21 +8,20 @@ use native.Mathlib.Omega.{arith}
 use lib.Dec.{eqb, leb, ltb}
 use lib.ListN.{length}
 use borrow.Author.Tests.{ltb-true, ltb-false, leb-true, eqb-true, ne_eqb}
+use Rattle.std.specs.Prelude.{Option, Some, None}
 use Rattle.word.specs.Word.{widest}
 use Rattle.characters.specs.Characters.{is_letter, run_end, same}
 use Rattle.text_constants.specs.Constants.{constant_at, decimal_at}
 use Rattle.characters.specs.Named.{Named}
 use Rattle.characters.specs.declared.Class.TheVariants as class
 use Rattle.text_constants.specs.declared.Number.{Number}
-use Rattle.text_constants.specs.declared.Number.TheVariants.{Plain, Unread}
 use Rattle.text_constants.specs.declared.Constant.{Constant}
-use Rattle.text_constants.specs.declared.Constant.TheVariants.{Found, Missing}
 use Rattle.laws.proofs.Joined.{and_right}
 use Rattle.laws.proofs.Tests.{by_test, by_case}
 use Rattle.text_constants.proofs.Widths.{Fitting, constant_fits}
 use Rattle.text_operators.specs.declared.Entry.{Entry}
 use Rattle.text_bit_parts.specs.declared.Reference.{Reference}
-use Rattle.text_bit_parts.specs.declared.Reference.TheVariants.{Whole, Part, Unknown}
+use Rattle.text_bit_parts.specs.declared.Reference.TheVariants.{Whole, Part}
 use Rattle.text_operators.specs.Operators.{table, no_entry, row_of, entry_in, weakest, strongest, rotations}
 use Rattle.text_tokens.specs.Tokens.{skip, next, slice, operator_at, after_token}
 use Rattle.text_tokens.specs.Signs.{round_open, round_close, square_open, square_close, not_token, memory_token}
@@ -60,20 +59,20 @@ module _ (rs : List Named) where
   unfolding limited
   limited_formed t p f = by_case Good (leb (width t) widest) (λ e. f (leb-true (width t) widest e)) (λ e. tt)
 
-  reference_formed : (s : List ℕ) (at : ℕ) (x : Reference) → reference_at rs s at ≡ x → Good (of_reference x)
+  reference_formed : (s : List ℕ) (at : ℕ) (x : Option Reference) → reference_at rs s at ≡ x → Good (of_reference x)
   unfolding of_reference
-  reference_formed s at (Whole r w p) e =
+  reference_formed s at (Some (Whole r w p)) e =
       let k = whole_known rs s at r w p e in
       limited_formed (register r w) p (λ h. record { listed = k.0; width_is = k.1; narrow = h })
-  reference_formed s at (Part r w a b p) e =
+  reference_formed s at (Some (Part r w a b p)) e =
       let k = bits_known rs s at r w a b p e in
       limited_formed (bit_part r w a b) p (λ h. record { listed = k.0; width_is = k.1; ordered = k.2; below = k.3; narrow = h })
-  reference_formed s at Unknown e = tt
+  reference_formed s at None e = tt
 
-  constant_formed : (x : Constant) → Fitting x → Good (of_constant x)
+  constant_formed : (x : Option Constant) → Fitting x → Good (of_constant x)
   unfolding of_constant
-  constant_formed (Found v w p) h = limited_formed (constant w v) p (λ n. record { some = h.some; narrow = n; fits = h.fits })
-  constant_formed Missing h = tt
+  constant_formed (Some d) h = limited_formed (constant d.width d.value) d.place (λ n. record { some = h.some; narrow = n; fits = h.fits })
+  constant_formed None h = tt
 
   not_formed : (x : Reading) → Good x → Good (not_of x)
   unfolding not_of
@@ -86,10 +85,10 @@ module _ (rs : List Named) where
       by_case Good (eqb (next s p) close) (λ e. by_case (Formed rs) (eqb close square_close) (λ u. h) (λ u. h)) (λ e. tt)
   closed_formed s close outside h = tt
 
-  rotation_formed : (row : ℕ) (l : Expr) (n : Number) → is_of rotations (entry_in row).operator ≡ true → Formed rs l → Good (rotation_of row l n)
+  rotation_formed : (row : ℕ) (l : Expr) (n : Option Number) → is_of rotations (entry_in row).operator ≡ true → Formed rs l → Good (rotation_of row l n)
   unfolding rotation_of
-  rotation_formed row l (Plain n p) o h = by_case Good (leb n largest_count) (λ e. record { rotation = o; few = leb-true n largest_count e; side = h }) (λ e. tt)
-  rotation_formed row l Unread o h = tt
+  rotation_formed row l (Some d) o h = by_case Good (leb d.value largest_count) (λ e. record { rotation = o; few = leb-true d.value largest_count e; side = h }) (λ e. tt)
+  rotation_formed row l None o h = tt
 
   joined_formed : (row : ℕ) (l : Expr) (x : Reading) → is_of strongest (entry_in row).operator ≡ false → is_of rotations (entry_in row).operator ≡ false
       → Formed rs l → Good x → Good (joined row l x)
@@ -188,15 +187,15 @@ module _ (rs : List Named) where
         (λ t. tt)
 
     -- destinations
-    name_formed : (x : Reference) → reference_at rs s 0 ≡ x → LeadsTo (FormedDestination rs) (of_name s x)
+    name_formed : (x : Option Reference) → reference_at rs s 0 ≡ x → LeadsTo (FormedDestination rs) (of_name s x)
     unfolding of_name
-    name_formed (Whole r w p) e =
+    name_formed (Some (Whole r w p)) e =
         let k = whole_known rs s 0 r w p e in
         by_case (LeadsTo (FormedDestination rs)) (eqb p (length s)) (λ t. record { listed = k.0; width_is = k.1 }) (λ t. tt)
-    name_formed (Part r w a b p) e =
+    name_formed (Some (Part r w a b p)) e =
         let k = bits_known rs s 0 r w a b p e in
         by_case (LeadsTo (FormedDestination rs)) (eqb p (length s)) (λ t. record { listed = k.0; width_is = k.1; ordered = k.2; below = k.3 }) (λ t. tt)
-    name_formed Unknown e = tt
+    name_formed None e = tt
 
     address_formed : (x : Reading) → Good x → LeadsTo (FormedDestination rs) (of_address s x)
     unfolding of_address

@@ -8,18 +8,18 @@ use native.Mathlib.Omega.{arith}
 use lib.Dec.{eqb, leb}
 use lib.ListN.{length}
 use borrow.Author.Tests.{le-leb, lt-leb, leb-true, leb-false}
+use Rattle.std.specs.Prelude.{Option, Some, None}
 use Rattle.characters.specs.Named.{Named}
 use Rattle.laws.proofs.Tests.{by_test}
 use Rattle.text_code.specs.declared.Cursor.{Cursor}
 use Rattle.text_code.specs.declared.Part.{Part}
-use Rattle.text_code.specs.declared.Part.TheVariants.{Found, Fault}
 use Rattle.text_operators.specs.Operators.{weakest}
 use Rattle.text_code.specs.Tree.{Expr, pieces, most_pieces}
 use Rattle.text_code.specs.Readings.{Reading, read, outside}
 use Rattle.text_grammar.specs.Grammar.{level, fuel}
 use Rattle.text_expression.specs.Fields.{trimmed}
 use Rattle.text_expression.specs.Expression.{whole, expression}
-use Rattle.text_code.specs.Met.{Held, Meets, Taken, Grown}
+use Rattle.text_code.specs.Met.{Held, Meets, Taken, Grown, part}
 use Rattle.text_expression.specs.Met.{Same, Whole}
 use Rattle.text_code.proofs.Parts.{met}
 
@@ -45,35 +45,35 @@ module _ (s : List ℕ) (c : Cursor) (w n : ℕ) where
   ends q = eqb q (length s) && leb c.pieces (n + most_pieces)
 
   -- the definition's test is the code's
-  same_test : (t : Expr) (p : ℕ) (from : Cursor) (before after : List ℕ) → from.pieces ≡ n → Held t p c w from before after
+  same_test : (t : Expr) (p : ℕ) (from : Cursor) (before after : List ℕ) → from.pieces ≡ n → Held t p (part c w) from before after
       → eqb p (length s) && leb (pieces t) most_pieces ≡ ends c.place
   same_test t p from before after f h =
       ap (λ (b : Bool). eqb p (length s) && b) (few_pieces n (pieces t) c.pieces (h.pieces_are ∙ ap (λ (k : ℕ). k + pieces t) f))
       ∙ ap ends (sym h.place_is)
 
   -- so what was read is the whole field's where the code's test holds, and the field is outside the rules where it doesn't
-  taken : ends c.place ≡ true → (x : Reading) (from : Cursor) (before after : List ℕ) → from.pieces ≡ n → Meets x (Found c w) from before after
-      → Meets (whole s x) (Found c w) from before after
+  taken : ends c.place ≡ true → (x : Reading) (from : Cursor) (before after : List ℕ) → from.pieces ≡ n → Meets x (Some (part c w)) from before after
+      → Meets (whole s x) (Some (part c w)) from before after
   taken e (read t p) from before after f h =
-      met (whole s (read t p)) (read t p) (Found c w) from before after (all_of_it s t p (same_test t p from before after f h ∙ e)) h
+      met (whole s (read t p)) (read t p) (Some (part c w)) from before after (all_of_it s t p (same_test t p from before after f h ∙ e)) h
   taken e outside from before after f h = absurd h
 
-  left : ends c.place ≡ false → (x : Reading) (from : Cursor) (before after : List ℕ) → from.pieces ≡ n → Meets x (Found c w) from before after
-      → Meets (whole s x) Fault from before after
+  left : ends c.place ≡ false → (x : Reading) (from : Cursor) (before after : List ℕ) → from.pieces ≡ n → Meets x (Some (part c w)) from before after
+      → Meets (whole s x) None from before after
   left e (read t p) from before after f h =
-      met (whole s (read t p)) outside Fault from before after (not_all s t p (same_test t p from before after f h ∙ e)) tt
+      met (whole s (read t p)) outside None from before after (not_all s t p (same_test t p from before after f h ∙ e)) tt
   left e outside from before after f h = absurd h
 
-  pub is_whole : ends c.place ≡ true → Whole s c w n (Found c w)
-  is_whole e = record { meets = taken e; is = (refl, refl) }
+  pub is_whole : ends c.place ≡ true → Whole s (part c w) n (Some (part c w))
+  is_whole e = record { meets = taken e; is = refl }
 
-  pub is_part : ends c.place ≡ false → Whole s c w n Fault
+  pub is_part : ends c.place ≡ false → Whole s (part c w) n None
   is_part e = record { meets = left e; is = tt }
 
   -- what the whole takes is what the part took
-  pub same_growth : (a m k : ℕ) (r : Part) → Taken s a m k c w → Same c w r → Grown s a m k r
-  same_growth a m k (Found e v) g o = subst (λ (x : Cursor). Taken s a m k x v) (sym o.0) (subst (λ (x : ℕ). Taken s a m k c x) (sym o.1) g)
-  same_growth a m k Fault g o = tt
+  pub same_growth : (a m k : ℕ) (r : Option Part) → Taken s a m k (part c w) → Same (part c w) r → Grown s a m k r
+  same_growth a m k (Some r) g o = subst (Taken s a m k) (sym o) g
+  same_growth a m k None g o = tt
 
 -- a field's expression
 module _ (rs : List Named) (s : List ℕ) where

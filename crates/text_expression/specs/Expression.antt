@@ -1,12 +1,12 @@
 -- How whole fields are read, over the registers rs: an expression, and a destination. It is what the rules of Fields give and nothing else, by the laws
 -- `expression_said`, `expression_read`, `destination_said` and `destination_read`.
 -- Assumes nothing.
-use Rattle.std.specs.Prelude.{ℕ, ◌+◌, true, false, ◌&&◌, List, eqb, leb, length}
+use Rattle.std.specs.Prelude.{ℕ, ◌+◌, true, false, ◌&&◌, List, eqb, leb, length, Option, Some, None}
 use Rattle.characters.specs.Characters.{run_end, same}
 use Rattle.characters.specs.Named.{Named}
 use Rattle.characters.specs.declared.Class.TheVariants.{Word}
 use Rattle.text_bit_parts.specs.declared.Reference.{Reference}
-use Rattle.text_bit_parts.specs.declared.Reference.TheVariants.{Whole, Part, Unknown}
+use Rattle.text_bit_parts.specs.declared.Reference.TheVariants.{Whole, Part}
 use Rattle.text_operators.specs.Operators.{weakest}
 use Rattle.text_tokens.specs.Tokens.{skip, next, slice}
 use Rattle.text_tokens.specs.Signs.{square_open, square_close, memory_token}
@@ -24,10 +24,10 @@ whole s outside = outside
 unfoldable pub expression : List Named → List ℕ → Reading
 expression rs s = elim (trimmed s) [ true ↦ whole s (level (fuel s) rs s 0 weakest 0) | false ↦ outside ]
 
-unfoldable pub of_name : List ℕ → Reference → DestinationReading
-of_name s (Whole r w p) = elim (eqb p (length s)) [ true ↦ leads (to_register r w) | false ↦ astray ]
-of_name s (Part r w a b p) = elim (eqb p (length s)) [ true ↦ leads (to_part r w a b) | false ↦ astray ]
-of_name s Unknown = astray
+unfoldable pub of_name : List ℕ → Option Reference → DestinationReading
+of_name s (Some (Whole r w p)) = elim (eqb p (length s)) [ true ↦ leads (to_register r w) | false ↦ astray ]
+of_name s (Some (Part r w a b p)) = elim (eqb p (length s)) [ true ↦ leads (to_part r w a b) | false ↦ astray ]
+of_name s None = astray
 
 -- "a destination's own bracket isn't counted"; "a memory destination's address being one of its own"
 unfoldable pub of_address : List ℕ → Reading → DestinationReading

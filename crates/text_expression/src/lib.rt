@@ -1,7 +1,7 @@
 // Whole fields: an expression, and a destination.
 #![tactic(auto)]
 
-ghost use Rattle.std.specs.Prelude.{◌≡◌, ◌+◌, ◌≤◌, length};
+ghost use Rattle.std.specs.Prelude.{◌≡◌, ◌+◌, ◌≤◌, length, Some};
 ghost use Rattle.word.specs.Word.{widest};
 ghost use Rattle.text_names.specs.Dictionaries.{entries, places};
 ghost use Rattle.text_expression.specs.Fields.{trimmed};
@@ -10,9 +10,8 @@ ghost use Rattle.text_code.specs.Met.{Leaf, capacity};
 ghost use Rattle.text_expression.specs.Met.{Whole, Aims, Points, Addressed};
 
 use characters::Class;
-use text_bit_parts::Reference;
+use text_bit_parts::{Field, Reference};
 use text_code::{CODE_PLACES, Cursor, Part};
-use text_names::Dictionary;
 use text_operators::OR;
 
 // "an expression has at most 32"
@@ -32,7 +31,6 @@ pub enum Place {
         last: u16,
     },
     Word(Cursor),
-    Nowhere,
 }
 
 // Whether no space stands at a field's ends.
@@ -47,53 +45,45 @@ fn is_trimmed(s: &[u8]) -> bool
 }
 
 // What was read, if it ends with the field and has no more than 32 pieces.
-fn whole_part(s: &[u8], end: Cursor, width: u16, pieces: usize) -> Part
-    requires fact_1 { pieces ≤ capacity }
-    requires fact_2 { end.place ≤ length s.now }
-    requires fact_3 { width ≤ widest }
-    ensures { Whole s.now end width pieces result }
+fn whole_part(s: &[u8], part: Part, pieces: usize) -> Option<Part>
+    requires few_before { pieces ≤ capacity }
+    requires within_field { part.end.place ≤ length s.now }
+    requires narrow { part.width ≤ widest }
+    ensures { Whole s.now part pieces result }
 {
+    let end = part.end;
     if (end.place == s.len()) & (end.pieces <= pieces + MOST_PIECES) {
-        Part::Found(end, width)
+        Some(part)
     } else {
-        Part::Fault
+        None
     }
 }
 
-// A field that is an expression, behind so many words and pieces.
+// A field that is an expression, behind what a cursor has counted.
 pub fn read_expression(
-    text: &[u8],
-    d: Dictionary,
-    s: &[u8],
+    field: &Field<'_>,
     code: &mut [u16; CODE_PLACES],
-    words: usize,
-    pieces: usize,
-) -> Part
-    requires fact_1 { d.count ≤ places }
-    requires fact_2 { words + length s.now ≤ capacity }
-    requires fact_3 { pieces + length s.now ≤ capacity }
-    ensures { Leaf (expression (entries text.now d) s.now) s.now 1 (words + 1) (pieces + 1)
-        result (record { place = 0; words = words; pieces = pieces }) code.old code.new }
+    from: Cursor,
+) -> Option<Part>
+    requires few_names { field.now.registers.count ≤ places }
+    requires words_fit { from.words + length field.now.bytes.now ≤ capacity }
+    requires pieces_fit { from.pieces + length field.now.bytes.now ≤ capacity }
+    ensures { Leaf (expression (entries field.now.text.now field.now.registers) field.now.bytes.now) field.now.bytes.now 1 (from.words + 1) (from.pieces + 1)
+        result (record { place = 0; words = from.words; pieces = from.pieces }) code.old code.new }
 {
-    if is_trimmed(s) {
-        let start = Cursor {
-            place: 0,
-            words: words,
-            pieces: pieces,
-        };
+    if is_trimmed(field.bytes) {
+        let start = from.at(0);
         let weakest = text_operators::entry_in(OR).strength;
-        match text_grammar::read_level(text, d, s, code, 0, weakest, start) {
-            Part::Found(end, width) => whole_part(s, end, width, pieces),
-            Part::Fault => Part::Fault,
-        }
+        let part = text_grammar::read_level(field, code, 0, weakest, start)?;
+        whole_part(field.bytes, part, from.pieces)
     } else {
-        Part::Fault
+        None
     }
 }
 
 // The destination that a name or a bit part is, if it ends with the field.
-fn named_place(s: &[u8], reference: Reference) -> Place
-    ensures { Points result (of_name s.now reference) }
+fn named_place(s: &[u8], reference: Reference) -> Option<Place>
+    ensures { Points result (of_name s.now (Some reference)) }
 {
     match reference {
         Reference::Whole {
@@ -102,12 +92,12 @@ fn named_place(s: &[u8], reference: Reference) -> Place
             place,
         } => {
             if place == s.len() {
-                Place::Register {
+                Some(Place::Register {
                     register: register,
                     width: width,
-                }
+                })
             } else {
-                Place::Nowhere
+                None
             }
         }
         Reference::Part {
@@ -118,24 +108,23 @@ fn named_place(s: &[u8], reference: Reference) -> Place
             place,
         } => {
             if place == s.len() {
-                Place::Bits {
+                Some(Place::Bits {
                     register: register,
                     width: width,
                     first: first,
                     last: last,
-                }
+                })
             } else {
-                Place::Nowhere
+                None
             }
         }
-        Reference::Unknown => Place::Nowhere,
     }
 }
 
 // The memory word whose address was read, if its bracket ends the field and it has no more than 32 pieces.
-fn addressed_place(s: &[u8], end: Cursor, from: Cursor) -> Place
-    requires fact_1 { from.pieces ≤ capacity }
-    requires fact_2 { end.place ≤ length s.now }
+fn addressed_place(s: &[u8], end: Cursor, from: Cursor) -> Option<Place>
+    requires few_before { from.pieces ≤ capacity }
+    requires within_field { end.place ≤ length s.now }
     ensures { Addressed s.now end result from }
 {
     let close = text_tokens::skip_spaces(s, end.place);
@@ -143,68 +132,57 @@ fn addressed_place(s: &[u8], end: Cursor, from: Cursor) -> Place
         & (close + 1 == s.len())
         & (end.pieces <= from.pieces + MOST_PIECES)
     {
-        Place::Word(end)
+        Some(Place::Word(end))
     } else {
-        Place::Nowhere
+        None
     }
 }
 
 // The memory destination whose M ends at a place.
 fn memory_place(
-    text: &[u8],
-    d: Dictionary,
-    s: &[u8],
+    field: &Field<'_>,
     code: &mut [u16; CODE_PLACES],
-    words: usize,
-    pieces: usize,
+    from: Cursor,
     end: usize,
-) -> Place
-    requires fact_1 { d.count ≤ places }
-    requires fact_2 { words + length s.now ≤ capacity }
-    requires fact_3 { pieces + length s.now ≤ capacity }
-    requires fact_4 { end ≤ length s.now }
-    ensures { Aims result (memory_at (entries text.now d) s.now end) s.now
-        (record { place = 0; words = words; pieces = pieces }) code.old code.new }
+) -> Option<Place>
+    requires few_names { field.now.registers.count ≤ places }
+    requires words_fit { from.words + length field.now.bytes.now ≤ capacity }
+    requires pieces_fit { from.pieces + length field.now.bytes.now ≤ capacity }
+    requires within_field { end ≤ length field.now.bytes.now }
+    ensures { Aims result (memory_at (entries field.now.text.now field.now.registers) field.now.bytes.now end) field.now.bytes.now
+        (record { place = 0; words = from.words; pieces = from.pieces }) code.old code.new }
 {
-    let bracket = text_tokens::skip_spaces(s, end);
-    if characters::byte(s, bracket) == b'[' {
-        let start = Cursor {
-            place: bracket + 1,
-            words: words,
-            pieces: pieces,
-        };
+    let bracket = text_tokens::skip_spaces(field.bytes, end);
+    if characters::byte(field.bytes, bracket) == b'[' {
+        let start = from.at(bracket + 1);
         let weakest = text_operators::entry_in(OR).strength;
-        match text_grammar::read_level(text, d, s, code, 0, weakest, start) {
-            Part::Found(close, _) => addressed_place(s, close, start),
-            Part::Fault => Place::Nowhere,
-        }
+        let address = text_grammar::read_level(field, code, 0, weakest, start)?;
+        addressed_place(field.bytes, address.end, start)
     } else {
-        Place::Nowhere
+        None
     }
 }
 
-// A field that is a destination, behind so many words and pieces.
+// A field that is a destination, behind what a cursor has counted.
 pub fn read_destination(
-    text: &[u8],
-    d: Dictionary,
-    s: &[u8],
+    field: &Field<'_>,
     code: &mut [u16; CODE_PLACES],
-    words: usize,
-    pieces: usize,
-) -> Place
-    requires fact_1 { d.count ≤ places }
-    requires fact_2 { words + length s.now ≤ capacity }
-    requires fact_3 { pieces + length s.now ≤ capacity }
-    ensures { Aims result (destination (entries text.now d) s.now) s.now
-        (record { place = 0; words = words; pieces = pieces }) code.old code.new }
+    from: Cursor,
+) -> Option<Place>
+    requires few_names { field.now.registers.count ≤ places }
+    requires words_fit { from.words + length field.now.bytes.now ≤ capacity }
+    requires pieces_fit { from.pieces + length field.now.bytes.now ≤ capacity }
+    ensures { Aims result (destination (entries field.now.text.now field.now.registers) field.now.bytes.now) field.now.bytes.now
+        (record { place = 0; words = from.words; pieces = from.pieces }) code.old code.new }
 {
-    if is_trimmed(s) {
-        let end = characters::run_end(s, 0, Class::Word);
-        if characters::is_same(characters::part(s, 0, end), b"M") {
-            return memory_place(text, d, s, code, words, pieces, end);
+    if is_trimmed(field.bytes) {
+        let end = characters::run_end(field.bytes, 0, Class::Word);
+        if characters::is_same(characters::part(field.bytes, 0, end), b"M") {
+            return memory_place(field, code, from, end);
         }
-        named_place(s, text_bit_parts::reference_at(text, d, s, 0))
+        let reference = text_bit_parts::reference_at(field, 0)?;
+        named_place(field.bytes, reference)
     } else {
-        Place::Nowhere
+        None
     }
 }

@@ -8,13 +8,13 @@ use Prim.Native.Nat.{ℕ, zero, suc, ◌+◌, ◌≤◌, ◌<◌}
 use native.Mathlib.Omega.{arith}
 use lib.ListN.{get_or}
 use borrow.Author.Tests.{eq-eqb, ne_eqb, lt-ltb, le-ltb}
+use Rattle.std.specs.Prelude.{Option, Some, None}
 use Rattle.characters.specs.Characters.{is_letter, run_end, same}
 use Rattle.text_constants.specs.Constants.{decimal_at, constant_at}
 use Rattle.characters.specs.Named.{Named}
 use Rattle.characters.specs.declared.Class.TheVariants.{Word}
 use Rattle.text_code.specs.declared.Cursor.{Cursor}
 use Rattle.text_code.specs.declared.Part.{Part}
-use Rattle.text_code.specs.declared.Part.TheVariants.{Found, Fault}
 use Rattle.text_operators.specs.declared.Entry.{Entry}
 use Rattle.text_operators.specs.Operators.{entry_in, weakest, strongest, rotations}
 use Rattle.text_code.specs.Tree.{Expr}
@@ -25,34 +25,34 @@ use Rattle.text_bit_parts.specs.References.{reference_at}
 use Rattle.text_code.specs.Readings.{Reading, read, outside, of_constant, of_reference, not_of, closed, rotation_of, joined}
 use Rattle.text_grammar.specs.Says.{deepest}
 use Rattle.text_grammar.specs.Grammar.{level, more, operation, operand, worded, negated, enclosed}
-use Rattle.text_code.specs.Met.{Held, Meets, Taken, Grown, Behind, OneMore}
+use Rattle.text_code.specs.Met.{Held, Meets, Taken, Grown, Behind, OneMore, part}
 use Rattle.text_grammar.specs.Met.{Branch}
 use Rattle.text_code.proofs.Parts.{met}
 
 -- one call more
-step : (n : ℕ) (g h : ℕ → Reading) (r : Part) (from : Cursor) (before after : List ℕ) → ((f : ℕ) → g (suc f) ≡ h f)
+step : (n : ℕ) (g h : ℕ → Reading) (r : Option Part) (from : Cursor) (before after : List ℕ) → ((f : ℕ) → g (suc f) ≡ h f)
     → ((f : ℕ) → n ≤ f → Meets (h f) r from before after) → (f : ℕ) → suc n ≤ f → Meets (g f) r from before after
 step n g h r from before after e m zero l = absurd (omega arith)
 step n g h r from before after e m (suc f) l = met (g (suc f)) (h f) r from before after (e f) (m f (omega arith))
 
 -- an answer by what one call comes to
-pub answered : {need : ℕ} {g : ℕ → Reading} {s : List ℕ} {a words pieces : ℕ} {r : Part} {from : Cursor} {before after : List ℕ} (n : ℕ) (h : ℕ → Reading)
+pub answered : {need : ℕ} {g : ℕ → Reading} {s : List ℕ} {a words pieces : ℕ} {r : Option Part} {from : Cursor} {before after : List ℕ} (n : ℕ) (h : ℕ → Reading)
     → suc n ≤ need → ((f : ℕ) → g (suc f) ≡ h f) → ((f : ℕ) → n ≤ f → Meets (h f) r from before after) → Grown s a words pieces r
     → Branch need g s a words pieces r from before after
 answered {need} {g} {s} {a} {words} {pieces} {r} {from} {before} {after} n h l e m grown =
     record { meets = λ f k. step n g h r from before after e m f (omega arith); grown = grown }
 
 -- the same behind a left side, which ends where the code's does
-pub answered_behind : {need : ℕ} {g : ℕ → Expr → ℕ → Reading} {s : List ℕ} {a words pieces : ℕ} {c : Cursor} {w : ℕ} {r : Part} {now after : List ℕ}
+pub answered_behind : {need : ℕ} {g : ℕ → Expr → ℕ → Reading} {s : List ℕ} {a words pieces : ℕ} {c : Cursor} {w : ℕ} {r : Option Part} {now after : List ℕ}
     (n : ℕ) (h : ℕ → Expr → Reading) → suc n ≤ need → ((l : Expr) (f : ℕ) → g (suc f) l c.place ≡ h f l)
-    → ((l : Expr) (from : Cursor) (before : List ℕ) → Held l c.place c w from before now → (f : ℕ) → n ≤ f → Meets (h f l) r from before after)
-    → Grown s a words pieces r → Behind need g s a words pieces c w r now after
+    → ((l : Expr) (from : Cursor) (before : List ℕ) → Held l c.place (part c w) from before now → (f : ℕ) → n ≤ f → Meets (h f l) r from before after)
+    → Grown s a words pieces r → Behind need g s a words pieces (part c w) r now after
 answered_behind {need} {g} {s} {a} {words} {pieces} {c} {w} {r} {now} {after} n h k e m grown =
     record {
       meets = λ l p from before i f b.
           subst (λ (q : ℕ). Meets (g f l q) r from before after) i.place_is
           (step n (λ x. g x l c.place) (λ x. h x l) r from before after (e l)
-          (m l from before (subst (λ (q : ℕ). Held l q c w from before now) (sym i.place_is) i))
+          (m l from before (subst (λ (q : ℕ). Held l q (part c w) from before now) (sym i.place_is) i))
           f (omega arith));
       grown = grown;
     }
@@ -61,28 +61,32 @@ answered_behind {need} {g} {s} {a} {words} {pieces} {c} {w} {r} {now} {after} n 
 abbrev pub at : Cursor → ℕ → Cursor
 at c q = record { place = q; words = c.words; pieces = c.pieces }
 
-pub moved : (c : Cursor) (q : ℕ) (x : Reading) (r : Part) (before after : List ℕ) → Meets x r (at c q) before after → Meets x r c before after
-moved c q (read t p) (Found d w) before after h =
+-- a cursor at another place, as the code makes it
+pub placed : (c d : Cursor) (q : ℕ) → d ≡ at c q → (d.place ≡ q) × (d.words ≡ c.words) × (d.pieces ≡ c.pieces)
+placed c d q e = (ap (λ (x : Cursor). x.place) e, ap (λ (x : Cursor). x.words) e, ap (λ (x : Cursor). x.pieces) e)
+
+pub moved : (c : Cursor) (q : ℕ) (x : Reading) (r : Option Part) (before after : List ℕ) → Meets x r (at c q) before after → Meets x r c before after
+moved c q (read t p) (Some d) before after h =
     record { place_is = h.place_is; width_is = h.width_is; pieces_are = h.pieces_are; words_are = h.words_are; code_is = h.code_is }
-moved c q (read t p) Fault before after h = h
-moved c q outside (Found d w) before after h = h
-moved c q outside Fault before after h = h
+moved c q (read t p) None before after h = h
+moved c q outside (Some d) before after h = h
+moved c q outside None before after h = h
 
 -- what grew from a later start, or with less
-pub regrown : (s : List ℕ) (r : Part) (a words pieces a' words' pieces' : ℕ) → Grown s a words pieces r
+pub regrown : (s : List ℕ) (r : Option Part) (a words pieces a' words' pieces' : ℕ) → Grown s a words pieces r
     → (a' ≤ a) × (words + a' ≤ words' + a) × (pieces + a' ≤ pieces' + a) → Grown s a' words' pieces' r
-regrown s (Found c w) a words pieces a' words' pieces' g h =
+regrown s (Some d) a words pieces a' words' pieces' g h =
     record { onward = omega (arith, g.onward, h); inside = g.inside; words_most = omega (arith, g.words_most, h); pieces_most = omega (arith, g.pieces_most, h); narrow = g.narrow }
-regrown s Fault a words pieces a' words' pieces' g h = tt
+regrown s None a words pieces a' words' pieces' g h = tt
 
 -- a reading that meets a fault is outside the rules, and so is what is made of it
-pub faulty : (x : Reading) (from : Cursor) (before after : List ℕ) → Meets x Fault from before after → x ≡ outside
+pub faulty : (x : Reading) (from : Cursor) (before after : List ℕ) → Meets x None from before after → x ≡ outside
 faulty (read t p) from before after m = absurd m
 faulty outside from before after m = refl
 
-pub still_fault : (g : Reading → Reading) (x : Reading) (c from : Cursor) (now mid before after : List ℕ) → g outside ≡ outside → Meets x Fault c now mid
-    → Meets (g x) Fault from before after
-still_fault g x c from now mid before after e m = met (g x) outside Fault from before after (ap g (faulty x c now mid m) ∙ e) tt
+pub still_fault : (g : Reading → Reading) (x : Reading) (c from : Cursor) (now mid before after : List ℕ) → g outside ≡ outside → Meets x None c now mid
+    → Meets (g x) None from before after
+still_fault g x c from now mid before after e m = met (g x) outside None from before after (ap g (faulty x c now mid m) ∙ e) tt
 
 module _ (rs : List Named) (s : List ℕ) (d : ℕ) where
   module _ (k at : ℕ) where
@@ -123,9 +127,9 @@ module _ (rs : List Named) (s : List ℕ) (d : ℕ) where
   more_outside k (suc f) = refl
 
   -- what is read behind every left side that the code may hold is read behind the one that was found
-  pub feed : (k f : ℕ) (x : Reading) (left : Cursor) (w : ℕ) (r : Part) (from : Cursor) (before mid after : List ℕ)
-      → ((l : Expr) (p : ℕ) → Held l p left w from before mid → Meets (more f rs s d k (read l p)) r from before after)
-      → Meets x (Found left w) from before mid → Meets (more f rs s d k x) r from before after
+  pub feed : (k f : ℕ) (x : Reading) (left : Cursor) (w : ℕ) (r : Option Part) (from : Cursor) (before mid after : List ℕ)
+      → ((l : Expr) (p : ℕ) → Held l p (part left w) from before mid → Meets (more f rs s d k (read l p)) r from before after)
+      → Meets x (Some (part left w)) from before mid → Meets (more f rs s d k x) r from before after
   feed k f (read l p) left w r from before mid after g m = g l p m
   feed k f outside left w r from before mid after g m = absurd m
 
@@ -190,11 +194,11 @@ module _ (rs : List Named) (s : List ℕ) (d : ℕ) where
     enclosed_deep close h f = rw (le-ltb d deepest h, enclosed)
 
 -- one word and one piece more than a right side
-pub grown_by_one : (s : List ℕ) (right : Cursor) (v a n m : ℕ) (r : Part) → Taken s a n m right v → OneMore right r → Grown s a (n + 1) (m + 1) r
-grown_by_one s right v a n m (Found c w) g o =
+pub grown_by_one : (s : List ℕ) (right : Cursor) (v a n m : ℕ) (r : Option Part) → Taken s a n m (part right v) → OneMore right r → Grown s a (n + 1) (m + 1) r
+grown_by_one s right v a n m (Some d) g o =
     let e = o.0 in
-    let p : c.place ≡ right.place = ap (λ (x : Cursor). x.place) e in
-    let q : c.words ≡ right.words + 1 = ap (λ (x : Cursor). x.words) e in
-    let z : c.pieces ≡ right.pieces + 1 = ap (λ (x : Cursor). x.pieces) e in
+    let p : d.end.place ≡ right.place = ap (λ (x : Cursor). x.place) e in
+    let q : d.end.words ≡ right.words + 1 = ap (λ (x : Cursor). x.words) e in
+    let z : d.end.pieces ≡ right.pieces + 1 = ap (λ (x : Cursor). x.pieces) e in
     record { onward = omega (arith, g.onward); inside = omega (arith, g.inside); words_most = omega (arith, g.words_most); pieces_most = omega (arith, g.pieces_most); narrow = o.1 }
-grown_by_one s right v a n m Fault g o = tt
+grown_by_one s right v a n m None g o = tt

@@ -8,6 +8,8 @@ use native.Mathlib.Omega.{arith}
 use lib.Dec.{eqb}
 use lib.ListN.{length}
 use borrow.Author.Tests.{le-leb, eq-eqb, eqb-true, eqb-false}
+use Rattle.std.specs.Prelude.{Some}
+use Rattle.text_constants.specs.Constants.{plain, found}
 use Rattle.laws.proofs.Tests.{by_test}
 use Rattle.laws.proofs.Lists.{present}
 use Rattle.word.specs.Word.{widest}
@@ -15,8 +17,6 @@ use Rattle.characters.specs.Characters.{same}
 use Rattle.characters.specs.Named.{Named}
 use Rattle.characters.specs.declared.Class.TheVariants as class
 use Rattle.characters.proofs.Runs.{onward}
-use Rattle.text_constants.specs.declared.Number.TheVariants.{Plain}
-use Rattle.text_constants.specs.declared.Constant.TheVariants.{Found}
 use Rattle.text_operators.specs.Operators.{entry_in, weakest, strongest, rotations}
 use Rattle.text_tokens.specs.Tokens.{skip, next, after_token, operator_at}
 use Rattle.text_tokens.proofs.Tokens.{round_open_lem, round_close_lem, square_open_lem, square_close_lem, word, word_end, after_word, token_first, token_after}
@@ -28,7 +28,7 @@ use Rattle.text_bit_parts.proofs.Onward.{word_of_letter, letters_past, reference
 use Rattle.text_constants.proofs.Places.{Past, decimal_past, constant_past}
 use Rattle.text_code.specs.Tree.{Expr, register, bit_part, constant, memory, complemented, rotated, binary, width, largest_count}
 use Rattle.text_code.specs.Readings.{Reading, read, outside, limited, of_reference, of_constant, not_of, closed, inside, rotation_of, joined}
-use Rattle.text_grammar.specs.Says.{operator, strength, Name, Says, stronger, operates, rotates, complements, encloses, fetches, is_register, is_part, is_constant}
+use Rattle.text_grammar.specs.Says.{strength, Name, Says, stronger, operates, rotates, complements, encloses, fetches, is_register, is_part, is_constant}
 use Rattle.text_grammar.specs.Grammar.{level, more, operation, operand, worded, negated, enclosed, fuel}
 use Rattle.text_grammar.specs.Met.{calls}
 use Rattle.text_grammar.proofs.Calls.{level_operand, level_more, more_stops, more_goes_on, operation_rotates, operation_joins, operand_encloses, operand_worded, operand_constant, worded_not, worded_memory, worded_name, negated_in, enclosed_in}
@@ -46,15 +46,15 @@ module _ (s : List ℕ) where
   unfolding limited
   limited_is t p h = rw (le-leb (width t) widest h, limited)
 
-  whole_is : (r w p : ℕ) → w ≤ widest → of_reference (Whole r w p) ≡ read (register r w) p
+  whole_is : (r w p : ℕ) → w ≤ widest → of_reference (Some (Whole r w p)) ≡ read (register r w) p
   unfolding of_reference
   whole_is r w p h = limited_is (register r w) p h
 
-  part_is : (r w a b p : ℕ) → width (bit_part r w a b) ≤ widest → of_reference (Part r w a b p) ≡ read (bit_part r w a b) p
+  part_is : (r w a b p : ℕ) → width (bit_part r w a b) ≤ widest → of_reference (Some (Part r w a b p)) ≡ read (bit_part r w a b) p
   unfolding of_reference
   part_is r w a b p h = limited_is (bit_part r w a b) p h
 
-  constant_is : (v w p : ℕ) → w ≤ widest → of_constant (Found v w p) ≡ read (constant w v) p
+  constant_is : (v w p : ℕ) → w ≤ widest → of_constant (found v w p) ≡ read (constant w v) p
   unfolding of_constant
   constant_is v w p h = limited_is (constant w v) p h
 
@@ -62,7 +62,7 @@ module _ (s : List ℕ) where
   unfolding joined
   joined_is row l r p h = limited_is (binary (entry_in row).operator l r) p h
 
-  rotation_is : (row : ℕ) (l : Expr) (n p : ℕ) → n ≤ largest_count → rotation_of row l (Plain n p) ≡ read (rotated (entry_in row).operator l n) p
+  rotation_is : (row : ℕ) (l : Expr) (n p : ℕ) → n ≤ largest_count → rotation_of row l (plain n p) ≡ read (rotated (entry_in row).operator l n) p
   unfolding rotation_of
   rotation_is row l n p h = rw (le-leb n largest_count h, rotation_of)
 

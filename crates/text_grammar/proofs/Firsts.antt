@@ -14,9 +14,8 @@ use Rattle.laws.proofs.Joined.{and_left, and_right}
 use Rattle.characters.specs.Ascii.{ascii, digit}
 use Rattle.characters.specs.Characters.{is_digit, is_letter, same}
 use Rattle.characters.proofs.Strings.{equal}
-use Rattle.text_constants.specs.Constants.{binary_mark, octal_mark, constant_at}
+use Rattle.text_constants.specs.Constants.{binary_mark, octal_mark, constant_at, found}
 use Rattle.text_constants.specs.Numerals.{IsConstant, binary, octal, decimal}
-use Rattle.text_constants.specs.declared.Constant.TheVariants.{Found}
 use Rattle.text_constants.proofs.Numerals.{mark_stands, digit_stands, constant_said}
 use Rattle.text_operators.specs.Operators.{entry_in}
 use Rattle.text_operators.specs.OperatorNames.{operator_row, find_in}
@@ -86,5 +85,5 @@ is_first s i (binary h) = mark_first (get_or s i 0) binary_mark (omega arith) re
 is_first s i (octal h) = mark_first (get_or s i 0) octal_mark (omega arith) refl (mark_stands s i h)
 is_first s i (decimal h g) = digit_first (get_or s i 0) (digit_stands s i h)
 
-pub constant_first : (s : List ℕ) (i : ℕ) {v w p : ℕ} → constant_at s i ≡ Found v w p → First (get_or s i 0)
+pub constant_first : (s : List ℕ) (i : ℕ) {v w p : ℕ} → constant_at s i ≡ found v w p → First (get_or s i 0)
 constant_first s i e = is_first s i (constant_said s i e)

@@ -3,11 +3,12 @@
 use mathlib.Core.Path.{◌≡◌, refl, subst, ◌∙◌}
 use mathlib.Core.Bool.{true, ◌&&◌}
 use mathlib.Core.List.{List, [], ◌∷◌}
-use Prim.Native.Nat.{ℕ, ◌+◌, ◌-◌, ◌≤◌, ◌<◌}
+use Prim.Native.Nat.{ℕ, ◌+◌, ◌≤◌, ◌<◌}
 use native.Mathlib.Omega.{arith}
 use lib.Dec.{eqb, leb, ltb}
 use lib.ListN.{length, drop}
 use borrow.Author.Tests.{eqb-true}
+use Rattle.std.specs.Prelude.{Option, Some, None}
 use Rattle.laws.proofs.Tests.{by_case}
 use Rattle.laws.proofs.Lists.{present}
 use Rattle.characters.specs.Characters.{is_letter, is_word}
@@ -15,7 +16,6 @@ use Rattle.characters.specs.Named.{Named, find}
 use Rattle.text_constants.specs.Constants.{binary_mark, octal_mark, decimal_at}
 use Rattle.text_constants.specs.Numerals.{IsDecimal, IsConstant, binary, octal, decimal}
 use Rattle.text_constants.specs.declared.Number.{Number}
-use Rattle.text_constants.specs.declared.Number.TheVariants.{Plain, Unread}
 use Rattle.text_constants.proofs.Numerals.{mark_stands, marked_end, word_of_digit, digit_stands, decimal_end, decimal_said, constant_said}
 use Rattle.text_operators.specs.Operators.{rotations}
 use Rattle.text_tokens.specs.Tokens.{skip, next, slice, token_end, after_token}
@@ -23,9 +23,8 @@ use Rattle.text_tokens.specs.Signs.{round_open, round_close, square_open, square
 use Rattle.text_tokens.proofs.Tokens.{Sign, round_open_lem, round_close_lem, square_open_lem, square_close_lem, angle_open_lem, angle_close_lem, colon_sign, word_end, word_end_lem, binary_end, octal_end, token_first, sign_after}
 use Rattle.text_bit_parts.specs.References.{second_bit, first_bit, span_at, part_of, width_in, register_at, reference_at}
 use Rattle.text_bit_parts.specs.declared.Span.{Span}
-use Rattle.text_bit_parts.specs.declared.Span.TheVariants.{Bits, Bad}
 use Rattle.text_bit_parts.specs.declared.Reference.{Reference}
-use Rattle.text_bit_parts.specs.declared.Reference.TheVariants.{Whole, Part, Unknown}
+use Rattle.text_bit_parts.specs.declared.Reference.TheVariants.{Whole, Part}
 use Rattle.text_bit_parts.proofs.Refers.{refers_read}
 use Rattle.text_bit_parts.proofs.Onward.{word_of_letter, word_past, operator_inside}
 use Rattle.text_code.specs.Tree.{Expr}
@@ -63,9 +62,9 @@ module _ (s : List ℕ) where
         one_more h (present s (skip s q) b e g.some) (sign_after s q b g e)
 
     -- a decimal
-    abbrev NumberTo : Number → Type 0
-    NumberTo (Plain v p) = Reaches s at p
-    NumberTo Unread = Unit {0}
+    abbrev NumberTo : Option Number → Type 0
+    NumberTo (Some d) = Reaches s at d.place
+    NumberTo None = Unit {0}
 
     is_decimal_to : (q : ℕ) → Reaches s at q → {v p : ℕ} → IsDecimal (drop (skip s q) s) (skip s q) v p → Reaches s at p
     is_decimal_to q h d = subst (Reaches s at) (decimal_end s (skip s q) d) (word_to q h (word_of_digit (next s q) (digit_stands s (skip s q) d)))
@@ -73,9 +72,9 @@ module _ (s : List ℕ) where
     decimal_to : (q : ℕ) → Reaches s at q → NumberTo (decimal_at s (skip s q))
     decimal_to q h = number_to (decimal_at s (skip s q)) refl
       where
-        number_to : (n : Number) → decimal_at s (skip s q) ≡ n → NumberTo n
-        number_to (Plain v p) e = is_decimal_to q h (decimal_said s (skip s q) e)
-        number_to Unread e = tt
+        number_to : (n : Option Number) → decimal_at s (skip s q) ≡ n → NumberTo n
+        number_to (Some d) e = is_decimal_to q h (decimal_said s (skip s q) e)
+        number_to None e = tt
 
     -- a constant
     constant_to : (q : ℕ) → Reaches s at q → {v w p : ℕ} → IsConstant (drop (skip s q) s) (skip s q) v w p → Reaches s at p
@@ -90,35 +89,35 @@ module _ (s : List ℕ) where
     constant_to q h (decimal d g) = is_decimal_to q h d
 
     -- a name, or a bit part
-    abbrev SpanTo : Span → Type 0
-    SpanTo (Bits a b p) = Reaches s at p
-    SpanTo Bad = Unit {0}
+    abbrev SpanTo : Option Span → Type 0
+    SpanTo (Some n) = Reaches s at n.place
+    SpanTo None = Unit {0}
 
-    abbrev pub ReferenceTo : Reference → Type 0
-    ReferenceTo (Whole r w p) = Reaches s at p
-    ReferenceTo (Part r w a b p) = Reaches s at p
-    ReferenceTo Unknown = Unit {0}
+    abbrev pub ReferenceTo : Option Reference → Type 0
+    ReferenceTo (Some (Whole r w p)) = Reaches s at p
+    ReferenceTo (Some (Part r w a b p)) = Reaches s at p
+    ReferenceTo None = Unit {0}
 
-    second_to : (a : ℕ) (n : Number) → NumberTo n → SpanTo (second_bit s a n)
+    second_to : (a : ℕ) (n : Option Number) → NumberTo n → SpanTo (second_bit s a n)
     unfolding second_bit
-    second_to a (Plain b p) h = by_case SpanTo (eqb (next s p) angle_close) (λ t. shown p angle_close angle_close_lem h t) (λ t. tt)
-    second_to a Unread h = tt
+    second_to a (Some d) h = by_case SpanTo (eqb (next s d.place) angle_close) (λ t. shown d.place angle_close angle_close_lem h t) (λ t. tt)
+    second_to a None h = tt
 
-    first_to : (n : Number) → NumberTo n → SpanTo (first_bit s n)
+    first_to : (n : Option Number) → NumberTo n → SpanTo (first_bit s n)
     unfolding first_bit
-    first_to (Plain a p) h =
-        by_case SpanTo (eqb (next s p) angle_close)
-        (λ t. shown p angle_close angle_close_lem h t)
+    first_to (Some d) h =
+        by_case SpanTo (eqb (next s d.place) angle_close)
+        (λ t. shown d.place angle_close angle_close_lem h t)
         (λ t.
-        by_case SpanTo (eqb (next s p) colon)
-        (λ u. second_to a (decimal_at s (skip s (skip s p + 1))) (decimal_to (skip s p + 1) (shown p colon colon_sign h u)))
+        by_case SpanTo (eqb (next s d.place) colon)
+        (λ u. second_to d.value (decimal_at s (skip s (skip s d.place + 1))) (decimal_to (skip s d.place + 1) (shown d.place colon colon_sign h u)))
         (λ u. tt))
-    first_to Unread h = tt
+    first_to None h = tt
 
-    part_to : (r w : ℕ) (n : Span) → SpanTo n → ReferenceTo (part_of r w n)
+    part_to : (r w : ℕ) (n : Option Span) → SpanTo n → ReferenceTo (part_of r w n)
     unfolding part_of
-    part_to r w (Bits a b p) h = by_case ReferenceTo (leb a b && ltb b w) (λ t. h) (λ t. tt)
-    part_to r w Bad h = tt
+    part_to r w (Some n) h = by_case ReferenceTo (leb n.first n.last && ltb n.last w) (λ t. h) (λ t. tt)
+    part_to r w None h = tt
 
     pub reference_to : (rs : List Named) (q : ℕ) → Reaches s at q → is_word (next s q) ≡ true → ReferenceTo (reference_at rs s (skip s q))
     unfolding reference_at register_at span_at

@@ -6,6 +6,7 @@ use mathlib.Core.List.{List}
 use Prim.Native.Nat.{ℕ, zero, suc, ◌+◌, ◌<◌}
 use lib.Dec.{eqb, leb, ltb}
 use borrow.Author.Tests.{ltb-true, leb-true, eqb-true}
+use Rattle.std.specs.Prelude.{Option, Some, None}
 use Rattle.laws.proofs.Tests.{by_case}
 use Rattle.word.specs.Word.{widest}
 use Rattle.characters.specs.Characters.{is_letter, same}
@@ -13,16 +14,14 @@ use Rattle.characters.specs.Named.{Named}
 use Rattle.characters.proofs.Strings.{equal}
 use Rattle.text_constants.specs.Constants.{constant_at, decimal_at}
 use Rattle.text_constants.specs.declared.Number.{Number}
-use Rattle.text_constants.specs.declared.Number.TheVariants.{Plain, Unread}
 use Rattle.text_constants.specs.declared.Constant.{Constant}
-use Rattle.text_constants.specs.declared.Constant.TheVariants.{Found, Missing}
 use Rattle.text_operators.specs.Operators.{weakest, strongest, rotations}
 use Rattle.text_tokens.specs.Tokens.{skip, next, after_token, operator_at}
 use Rattle.text_tokens.specs.Signs.{round_open, round_close, square_open, square_close, not_token, memory_token}
 use Rattle.text_bit_parts.specs.References.{reference_at}
 use Rattle.text_bit_parts.proofs.Refers.{whole_referred, part_referred}
 use Rattle.text_bit_parts.specs.declared.Reference.{Reference}
-use Rattle.text_bit_parts.specs.declared.Reference.TheVariants.{Whole, Part, Unknown}
+use Rattle.text_bit_parts.specs.declared.Reference.TheVariants.{Whole, Part}
 use Rattle.text_tokens.proofs.Tokens.{round_open_lem, round_close_lem, square_open_lem, square_close_lem, word, word_end, after_word, sign_after, sign_token}
 use Rattle.text_bit_parts.proofs.Onward.{word_of_letter}
 use Rattle.text_code.specs.Tree.{Expr, memory, bit_part, binary, width, largest_count}
@@ -54,17 +53,17 @@ module _ (rs : List Named) (s : List ℕ) where
   weaker d k at (read t p) h = stronger h
   weaker d k at outside h = tt
 
-  reference_said : (d at : ℕ) (x : Reference) → Name s at → reference_at rs s (skip s at) ≡ x → Said d strongest at (of_reference x)
+  reference_said : (d at : ℕ) (x : Option Reference) → Name s at → reference_at rs s (skip s at) ≡ x → Said d strongest at (of_reference x)
   unfolding of_reference limited
-  reference_said d at (Whole r w p) n e = by_case (Said d strongest at) (leb w widest) (λ u. is_register n (whole_referred rs s (skip s at) r w p e) (leb-true w widest u)) (λ u. tt)
-  reference_said d at (Part r w a b p) n e =
+  reference_said d at (Some (Whole r w p)) n e = by_case (Said d strongest at) (leb w widest) (λ u. is_register n (whole_referred rs s (skip s at) r w p e) (leb-true w widest u)) (λ u. tt)
+  reference_said d at (Some (Part r w a b p)) n e =
       by_case (Said d strongest at) (leb (width (bit_part r w a b)) widest) (λ u. is_part n (part_referred rs s (skip s at) r w a b p e) (leb-true (width (bit_part r w a b)) widest u)) (λ u. tt)
-  reference_said d at Unknown n e = tt
+  reference_said d at None n e = tt
 
-  constant_said : (d at : ℕ) (x : Constant) → constant_at s (skip s at) ≡ x → Said d strongest at (of_constant x)
+  constant_said : (d at : ℕ) (x : Option Constant) → constant_at s (skip s at) ≡ x → Said d strongest at (of_constant x)
   unfolding of_constant limited
-  constant_said d at (Found v w p) e = by_case (Said d strongest at) (leb w widest) (λ u. is_constant e (leb-true w widest u)) (λ u. tt)
-  constant_said d at Missing e = tt
+  constant_said d at (Some c) e = by_case (Said d strongest at) (leb c.width widest) (λ u. is_constant e (leb-true c.width widest u)) (λ u. tt)
+  constant_said d at None e = tt
 
   not_said : (d at : ℕ) (x : Reading) → word s at ≡ not_token → d < deepest → Said (d + 1) strongest (word_end s at) x → Said d strongest at (not_of x)
   unfolding not_of
@@ -102,11 +101,11 @@ module _ (rs : List Named) (s : List ℕ) where
       (λ u. tt)
   square_said d at outside w e l h = tt
 
-  rotation_said : (d at q : ℕ) (l : Expr) (n : Number) → Says rs s d rotations at q l → strength s q ≡ rotations → decimal_at s (skip s (after_token s q)) ≡ n
+  rotation_said : (d at q : ℕ) (l : Expr) (n : Option Number) → Says rs s d rotations at q l → strength s q ≡ rotations → decimal_at s (skip s (after_token s q)) ≡ n
       → Said d rotations at (rotation_of (operator_at s q) l n)
   unfolding rotation_of
-  rotation_said d at q l (Plain n p) h e g = by_case (Said d rotations at) (leb n largest_count) (λ u. rotates h e g (leb-true n largest_count u)) (λ u. tt)
-  rotation_said d at q l Unread h e g = tt
+  rotation_said d at q l (Some c) h e g = by_case (Said d rotations at) (leb c.value largest_count) (λ u. rotates h e g (leb-true c.value largest_count u)) (λ u. tt)
+  rotation_said d at q l None h e g = tt
 
   joined_said : (d k at q : ℕ) (l : Expr) (x : Reading) → Says rs s d k at q l → strength s q ≡ k → (k ≡ rotations → ⊥) → Said d (k + 1) (after_token s q) x
       → Said d k at (joined (operator_at s q) l x)

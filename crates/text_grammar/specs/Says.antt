@@ -7,9 +7,7 @@ use Rattle.word.specs.Word.{widest}
 use Rattle.characters.specs.Ascii.{ascii}
 use Rattle.characters.specs.Characters.{is_letter}
 use Rattle.characters.specs.Named.{Named}
-use Rattle.text_constants.specs.Constants.{constant_at, decimal_at}
-use Rattle.text_constants.specs.declared.Number.TheVariants.{Plain}
-use Rattle.text_constants.specs.declared.Constant.TheVariants.{Found}
+use Rattle.text_constants.specs.Constants.{constant_at, decimal_at, plain, found}
 use Rattle.text_operators.specs.declared.Operator.{Operator}
 use Rattle.text_operators.specs.Operators.{entry_in, weakest, strongest, rotations}
 use Rattle.text_tokens.specs.Tokens.{skip, next, after_token, token, operator_at}
@@ -42,7 +40,7 @@ pub data Says (rs : List Named) (s : List ℕ) : ℕ → ℕ → ℕ → ℕ →
   operates : {d k at q p : ℕ} {l r : Expr} → Says rs s d k at q l → strength s q ≡ k → (k ≡ rotations → ⊥) → Says rs s d (k + 1) (after_token s q) p r
       → width (binary (operator s q) l r) ≤ widest → Says rs s d k at p (binary (operator s q) l r)
   -- "Slr, Srr (rotate; right side a decimal from 0 to 15 ..)"
-  rotates : {d at q n p : ℕ} {l : Expr} → Says rs s d rotations at q l → strength s q ≡ rotations → decimal_at s (skip s (after_token s q)) ≡ Plain n p
+  rotates : {d at q n p : ℕ} {l : Expr} → Says rs s d rotations at q l → strength s q ≡ rotations → decimal_at s (skip s (after_token s q)) ≡ plain n p
       → n ≤ largest_count → Says rs s d rotations at p (rotated (operator s q) l n)
   -- "Not is prefix"; "a Not is open to its operand's end"
   complements : {d at p : ℕ} {t : Expr} → token s at ≡ ascii "Not" → d < deepest → Says rs s (d + 1) strongest (after_token s at) p t
@@ -55,4 +53,4 @@ pub data Says (rs : List Named) (s : List ℕ) : ℕ → ℕ → ℕ → ℕ →
   is_register : {d at r w p : ℕ} → Name s at → Refers rs s (skip s at) (Whole r w p) → w ≤ widest → Says rs s d strongest at p (register r w)
   is_part : {d at r w a b p : ℕ} → Name s at → Refers rs s (skip s at) (Part r w a b p) → width (bit_part r w a b) ≤ widest
       → Says rs s d strongest at p (bit_part r w a b)
-  is_constant : {d at v w p : ℕ} → constant_at s (skip s at) ≡ Found v w p → w ≤ widest → Says rs s d strongest at p (constant w v)
+  is_constant : {d at v w p : ℕ} → constant_at s (skip s at) ≡ found v w p → w ≤ widest → Says rs s d strongest at p (constant w v)

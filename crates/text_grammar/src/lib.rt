@@ -13,8 +13,8 @@ ghost use Rattle.text_code.specs.Met.{Room, Behind};
 ghost use Rattle.text_grammar.specs.Met.{Branch, calls};
 
 use characters::Class;
+use text_bit_parts::Field;
 use text_code::{CODE_PLACES, Cursor, Part, compounds, leaves};
-use text_names::Dictionary;
 use text_operators::{NOT, OR, SLR};
 
 // "Open brackets, parentheses and Nots nest to 8."
@@ -23,217 +23,171 @@ const DEEPEST: usize = 8;
 // An expression of a strength, from the cursor on.
 #[cycle(grammar)]
 pub fn read_level(
-    text: &[u8],
-    d: Dictionary,
-    s: &[u8],
+    field: &Field<'_>,
     code: &mut [u16; CODE_PLACES],
     depth: usize,
     strength: u8,
     c: Cursor,
-) -> Part
-    requires { (Room s.now c 0) × ((d.count ≤ places) × ((1 ≤ strength) × (strength ≤ strongest))) }
-    ensures { Branch (calls s.now c.place (9 - strength))
-        (λ f. level f (entries text.now d) s.now depth strength c.place)
-        s.now (c.place + 1) (c.words + 1) (c.pieces + 1) result c code.old code.new }
+) -> Option<Part>
+    requires { (Room field.now.bytes.now c 0) × ((field.now.registers.count ≤ places) × ((1 ≤ strength) × (strength ≤ strongest))) }
+    ensures { Branch (calls field.now.bytes.now c.place (9 - strength))
+        (λ f. level f (entries field.now.text.now field.now.registers) field.now.bytes.now depth strength c.place)
+        field.now.bytes.now (c.place + 1) (c.words + 1) (c.pieces + 1) result c code.old code.new }
 {
     let strongest = text_operators::entry_in(NOT).strength;
     if strength == strongest {
-        return read_operand(text, d, s, code, depth, c);
+        return read_operand(field, code, depth, c);
     }
-    match read_level(text, d, s, code, depth, strength + 1, c) {
-        Part::Found(left, width) => read_more(text, d, s, code, depth, strength, left, width),
-        Part::Fault => Part::Fault,
-    }
+    let left = read_level(field, code, depth, strength + 1, c)?;
+    read_more(field, code, depth, strength, left)
 }
 
 // The operators of a strength behind a left side, with their right sides.
 #[cycle(grammar)]
 fn read_more(
-    text: &[u8],
-    d: Dictionary,
-    s: &[u8],
+    field: &Field<'_>,
     code: &mut [u16; CODE_PLACES],
     depth: usize,
     strength: u8,
-    left: Cursor,
-    width: u16,
-) -> Part
-    requires { (Room s.now left 0) × ((d.count ≤ places) × ((1 ≤ strength) × ((strength < strongest) × (width ≤ widest)))) }
-    ensures { Behind (calls s.now left.place 9)
-        (λ f l p. more f (entries text.now d) s.now depth strength (read l p))
-        s.now left.place left.words left.pieces left width result code.old code.new }
+    left: Part,
+) -> Option<Part>
+    requires { (Room field.now.bytes.now left.end 0) × ((field.now.registers.count ≤ places) × ((1 ≤ strength) × ((strength < strongest) × (left.width ≤ widest)))) }
+    ensures { Behind (calls field.now.bytes.now left.end.place 9)
+        (λ f l p. more f (entries field.now.text.now field.now.registers) field.now.bytes.now depth strength (read l p))
+        field.now.bytes.now left.end.place left.end.words left.end.pieces left result code.old code.new }
 {
-    let entry = text_operators::entry_in(text_tokens::operator_at(s, left.place));
+    let entry = text_operators::entry_in(text_tokens::operator_at(field.bytes, left.end.place));
     if entry.strength != strength {
-        return Part::Found(left, width);
+        return Some(left);
     }
-    match read_operation(text, d, s, code, depth, strength, left, width) {
-        Part::Found(next, wide) => read_more(text, d, s, code, depth, strength, next, wide),
-        Part::Fault => Part::Fault,
-    }
+    let next = read_operation(field, code, depth, strength, left)?;
+    read_more(field, code, depth, strength, next)
 }
 
 // The one operator behind a left side, with its right side.
 #[cycle(grammar)]
 fn read_operation(
-    text: &[u8],
-    d: Dictionary,
-    s: &[u8],
+    field: &Field<'_>,
     code: &mut [u16; CODE_PLACES],
     depth: usize,
     strength: u8,
-    left: Cursor,
-    width: u16,
-) -> Part
-    requires { (Room s.now left 0) × ((d.count ≤ places) × (((1 ≤ strength) × (strength < strongest)) × ((width ≤ widest) × ((entry_in (operator_at s.now left.place)).strength ≡ strength)))) }
-    ensures { Behind (calls s.now left.place 8)
-        (λ f l p. operation f (entries text.now d) s.now depth strength l p)
-        s.now (left.place + 1) (left.words + 1) (left.pieces + 1) left width result code.old code.new }
+    left: Part,
+) -> Option<Part>
+    requires { (Room field.now.bytes.now left.end 0) × ((field.now.registers.count ≤ places) × (((1 ≤ strength) × (strength < strongest)) × ((left.width ≤ widest) × ((entry_in (operator_at field.now.bytes.now left.end.place)).strength ≡ strength)))) }
+    ensures { Behind (calls field.now.bytes.now left.end.place 8)
+        (λ f l p. operation f (entries field.now.text.now field.now.registers) field.now.bytes.now depth strength l p)
+        field.now.bytes.now (left.end.place + 1) (left.end.words + 1) (left.end.pieces + 1) left result code.old code.new }
 {
-    let row = text_tokens::operator_at(s, left.place);
-    let end = text_tokens::operator_end(s, left.place);
+    let row = text_tokens::operator_at(field.bytes, left.end.place);
+    let end = text_tokens::operator_end(field.bytes, left.end.place);
     let rotations = text_operators::entry_in(SLR).strength;
     if strength == rotations {
-        return compounds::rotated_part(s, code, row, left, width, end);
+        return compounds::rotated_part(field.bytes, code, row, left, end);
     }
-    let start = Cursor {
-        place: end,
-        words: left.words,
-        pieces: left.pieces,
-    };
-    match read_level(text, d, s, code, depth, strength + 1, start) {
-        Part::Found(right, other) => compounds::joined_part(code, row, left, width, right, other),
-        Part::Fault => Part::Fault,
-    }
+    let start = left.end.at(end);
+    let right = read_level(field, code, depth, strength + 1, start)?;
+    compounds::joined_part(code, row, left, right)
 }
 
 // The operand at the cursor.
 #[cycle(grammar)]
 fn read_operand(
-    text: &[u8],
-    d: Dictionary,
-    s: &[u8],
+    field: &Field<'_>,
     code: &mut [u16; CODE_PLACES],
     depth: usize,
     c: Cursor,
-) -> Part
-    requires { (Room s.now c 0) × (d.count ≤ places) }
-    ensures { Branch (calls s.now c.place 1)
-        (λ f. operand f (entries text.now d) s.now depth c.place)
-        s.now (c.place + 1) (c.words + 1) (c.pieces + 1) result c code.old code.new }
+) -> Option<Part>
+    requires { (Room field.now.bytes.now c 0) × (field.now.registers.count ≤ places) }
+    ensures { Branch (calls field.now.bytes.now c.place 1)
+        (λ f. operand f (entries field.now.text.now field.now.registers) field.now.bytes.now depth c.place)
+        field.now.bytes.now (c.place + 1) (c.words + 1) (c.pieces + 1) result c code.old code.new }
 {
-    let start = text_tokens::skip_spaces(s, c.place);
-    let first = characters::byte(s, start);
+    let start = text_tokens::skip_spaces(field.bytes, c.place);
+    let first = characters::byte(field.bytes, start);
     if first == b'(' {
-        let inner = Cursor {
-            place: start + 1,
-            words: c.words,
-            pieces: c.pieces,
-        };
-        return read_enclosed(text, d, s, code, depth, b')', inner);
+        let inner = c.at(start + 1);
+        return read_enclosed(field, code, depth, b')', inner);
     }
-    let here = Cursor {
-        place: start,
-        words: c.words,
-        pieces: c.pieces,
-    };
+    let here = c.at(start);
     if characters::is_letter(first) {
-        read_worded(text, d, s, code, depth, here)
+        read_worded(field, code, depth, here)
     } else {
-        leaves::constant_part(s, code, here)
+        leaves::constant_part(field.bytes, code, here)
     }
 }
 
 // The operand that begins with a letter, at the cursor.
 #[cycle(grammar)]
 fn read_worded(
-    text: &[u8],
-    d: Dictionary,
-    s: &[u8],
+    field: &Field<'_>,
     code: &mut [u16; CODE_PLACES],
     depth: usize,
     c: Cursor,
-) -> Part
-    requires { (Room s.now c 0) × ((d.count ≤ places) × (is_letter (get_or s.now c.place 0) ≡ true)) }
-    ensures { Branch (calls s.now c.place 0)
-        (λ f. worded f (entries text.now d) s.now depth c.place)
-        s.now (c.place + 1) (c.words + 1) (c.pieces + 1) result c code.old code.new }
+) -> Option<Part>
+    requires { (Room field.now.bytes.now c 0) × ((field.now.registers.count ≤ places) × (is_letter (get_or field.now.bytes.now c.place 0) ≡ true)) }
+    ensures { Branch (calls field.now.bytes.now c.place 0)
+        (λ f. worded f (entries field.now.text.now field.now.registers) field.now.bytes.now depth c.place)
+        field.now.bytes.now (c.place + 1) (c.words + 1) (c.pieces + 1) result c code.old code.new }
 {
     let start = c.place;
-    let end = characters::run_end(s, start, Class::Word);
-    let token = characters::part(s, start, end - start);
+    let end = characters::run_end(field.bytes, start, Class::Word);
+    let token = characters::part(field.bytes, start, end - start);
     if characters::is_same(token, b"Not") {
-        let operand = Cursor {
-            place: end,
-            words: c.words,
-            pieces: c.pieces,
-        };
-        return read_negated(text, d, s, code, depth, operand);
+        let operand = c.at(end);
+        return read_negated(field, code, depth, operand);
     }
     if characters::is_same(token, b"M") {
-        let open = text_tokens::skip_spaces(s, end);
-        if characters::byte(s, open) != b'[' {
-            return Part::Fault;
+        let open = text_tokens::skip_spaces(field.bytes, end);
+        if characters::byte(field.bytes, open) != b'[' {
+            return None;
         }
-        let address = Cursor {
-            place: open + 1,
-            words: c.words,
-            pieces: c.pieces,
-        };
-        return read_enclosed(text, d, s, code, depth, b']', address);
+        let address = c.at(open + 1);
+        return read_enclosed(field, code, depth, b']', address);
     }
-    leaves::reference_part(text, d, s, code, c)
+    leaves::reference_part(field, code, c)
 }
 
 // What a Not stands before.
 #[cycle(grammar)]
 fn read_negated(
-    text: &[u8],
-    d: Dictionary,
-    s: &[u8],
+    field: &Field<'_>,
     code: &mut [u16; CODE_PLACES],
     depth: usize,
     c: Cursor,
-) -> Part
-    requires { (Room s.now c 1) × (d.count ≤ places) }
-    ensures { Branch (calls s.now c.place 3)
-        (λ f. negated f (entries text.now d) s.now depth c.place)
-        s.now (c.place + 1) (c.words + 2) (c.pieces + 2) result c code.old code.new }
+) -> Option<Part>
+    requires { (Room field.now.bytes.now c 1) × (field.now.registers.count ≤ places) }
+    ensures { Branch (calls field.now.bytes.now c.place 3)
+        (λ f. negated f (entries field.now.text.now field.now.registers) field.now.bytes.now depth c.place)
+        field.now.bytes.now (c.place + 1) (c.words + 2) (c.pieces + 2) result c code.old code.new }
 {
     if depth < DEEPEST {
         let own = text_operators::entry_in(NOT).strength;
-        match read_level(text, d, s, code, depth + 1, own, c) {
-            Part::Found(operand, width) => compounds::complemented_part(code, operand, width),
-            Part::Fault => Part::Fault,
-        }
+        let operand = read_level(field, code, depth + 1, own, c)?;
+        Some(compounds::complemented_part(code, operand))
     } else {
-        Part::Fault
+        None
     }
 }
 
 // The bracketed part behind an open bracket.
 #[cycle(grammar)]
 fn read_enclosed(
-    text: &[u8],
-    d: Dictionary,
-    s: &[u8],
+    field: &Field<'_>,
     code: &mut [u16; CODE_PLACES],
     depth: usize,
     close: u8,
     c: Cursor,
-) -> Part
-    requires { (Room s.now c 1) × ((d.count ≤ places) × (0 < close)) }
-    ensures { Branch (calls s.now c.place 9)
-        (λ f. enclosed f (entries text.now d) s.now depth close c.place)
-        s.now (c.place + 1) (c.words + 2) (c.pieces + 2) result c code.old code.new }
+) -> Option<Part>
+    requires { (Room field.now.bytes.now c 1) × ((field.now.registers.count ≤ places) × (0 < close)) }
+    ensures { Branch (calls field.now.bytes.now c.place 9)
+        (λ f. enclosed f (entries field.now.text.now field.now.registers) field.now.bytes.now depth close c.place)
+        field.now.bytes.now (c.place + 1) (c.words + 2) (c.pieces + 2) result c code.old code.new }
 {
     if depth < DEEPEST {
         let weakest = text_operators::entry_in(OR).strength;
-        match read_level(text, d, s, code, depth + 1, weakest, c) {
-            Part::Found(inner, width) => compounds::closed_part(s, code, inner, width, close),
-            Part::Fault => Part::Fault,
-        }
+        let inner = read_level(field, code, depth + 1, weakest, c)?;
+        compounds::closed_part(field.bytes, code, inner, close)
     } else {
-        Part::Fault
+        None
     }
 }

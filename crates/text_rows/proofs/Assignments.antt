@@ -1,13 +1,12 @@
 -- The laws of a `do` line's parts: destination, value, and the row that they make.
 -- Assumes nothing.
 use mathlib.Core.Path.{◌≡◌, refl, sym, ap, subst, ◌∙◌}
-use mathlib.Core.Bool.{true, false}
 use mathlib.Core.List.{List, [], ◌++◌}
 use Prim.Native.Nat.{ℕ, ◌+◌, ◌*◌, ◌≤◌}
 use native.Mathlib.Omega.{arith}
 use lib.ListN.{length, length-append}
 use lib.Seq.{sets}
-use Rattle.laws.proofs.Tests.{not_so}
+use Rattle.std.specs.Prelude.{Option, Some, None}
 use Rattle.text_fields.specs.Fields.{field}
 use Rattle.characters.specs.Named.{Named}
 use Rattle.text_code.specs.declared.Cursor.{Cursor}
@@ -15,71 +14,65 @@ use Rattle.text_code.specs.Tree.{Expr, Destination, to_register, to_part, to_mem
 use Rattle.text_code.specs.Code.{code_of}
 use Rattle.text_code.specs.Readings.{Reading, read, outside, DestinationReading, leads, astray}
 use Rattle.text_expression.specs.Expression.{expression, destination}
-use Rattle.text_code.specs.Met.{Held}
+use Rattle.text_code.specs.Met.{Held, part}
 use Rattle.text_expression.specs.Met.{Aims}
 use Rattle.text_expression.specs.declared.Place.{Place}
-use Rattle.text_expression.specs.declared.Place.TheVariants.{Register, Bits, Word, Nowhere}
+use Rattle.text_expression.specs.declared.Place.TheVariants.{Register, Bits, Word}
 use Rattle.text_expression.proofs.Formed.{ordered}
 use Rattle.laws.proofs.Lists.{sets_behind}
 use Rattle.text_declaration.specs.Rows.{Row, does, address_pieces}
 use Rattle.text_rows.specs.declared.cells.Aim.{Aim}
 use Rattle.text_rows.specs.declared.actions.RowRead.{RowRead}
 use Rattle.text_rows.specs.Cells.{address_code, row_code, kind_of, register_of, right_of, size_of, cells_of, do_cells}
-use Rattle.text_rows.specs.Stored.{Aiming, Aimed, formed, unformed, do_row, HasRow, InOrder, aim_of}
+use Rattle.text_rows.specs.Stored.{Aiming, Aimed, Rows, Acts, formed, unformed, do_row, HasRow, InOrder, aim_of}
 use Rattle.text_rows.proofs.RowLines.{ReadAs}
 
 -- the cells of a destination whose address reaches to end
 abbrev cells_of_lem : Destination → Cursor → Aim
-cells_of_lem d end = record { kind = kind_of d; register = register_of d; right = right_of d; size = size_of d; end = end; found = true }
+cells_of_lem d end = record { kind = kind_of d; register = register_of d; right = right_of d; size = size_of d; end = end }
 
 module _ (x : DestinationReading) (s : List ℕ) (from : Cursor) (now after : List ℕ) where
   -- a destination whose address has its pieces and words behind those before it
   aims_at : (d : Destination) (end : Cursor) → x ≡ leads d → end.pieces ≡ from.pieces + address_pieces d
       → 4 * end.words ≡ 4 * from.words + length (address_code d) → after ≡ sets now (4 * from.words) (address_code d)
       → end.words ≤ from.words + length s → end.pieces ≤ from.pieces + length s
-      → Aimed x s (cells_of_lem d end) from now after
+      → Aimed x s (Some (cells_of_lem d end)) from now after
   aims_at d end e counted reached stored few_words few_pieces =
-      subst (λ (z : DestinationReading). Aimed z s (cells_of_lem d end) from now after) (sym e)
+      subst (λ (z : DestinationReading). Aimed z s (Some (cells_of_lem d end)) from now after) (sym e)
       (record {
-        aims = λ k.
-            record {
-              to = d;
-              is = refl;
-              aiming = record {
-                kind_is = refl;
-                register_is = refl;
-                right_is = refl;
-                size_is = refl;
-                pieces_are = counted;
-                words_are = reached;
-                code_is = stored;
-                words_few = few_words;
-                pieces_few = few_pieces;
-              };
-            };
-        misses = λ k. not_so true refl k;
+        to = d;
+        is = refl;
+        aiming = record {
+          kind_is = refl;
+          register_is = refl;
+          right_is = refl;
+          size_is = refl;
+          pieces_are = counted;
+          words_are = reached;
+          code_is = stored;
+          words_few = few_words;
+          pieces_few = few_pieces;
+        };
       })
 
   -- a register or a bit part has no address
   aims_plain : (d : Destination) → x ≡ leads d → address_pieces d ≡ 0 → address_code d ≡ [] → after ≡ now
-      → Aimed x s (cells_of_lem d from) from now after
+      → Aimed x s (Some (cells_of_lem d from)) from now after
   aims_plain d e no_pieces no_words same =
       aims_at d from e (omega (arith, no_pieces)) (omega (arith, ap length no_words))
       (same ∙ ap (sets now (4 * from.words)) (sym no_words)) (omega arith) (omega arith)
 
   -- the cells of a place are those of its destination
-  pub aimed : (p : Place) → Aims p x s (record { place = 0; words = from.words; pieces = from.pieces }) now after → Aimed x s (aim_of p from) from now after
+  pub aimed : (p : Place) → Aims (Some p) x s (record { place = 0; words = from.words; pieces = from.pieces }) now after → Aimed x s (Some (aim_of p from)) from now after
   aimed (Register r w) y = aims_plain (to_register r w) y.0 refl refl y.1
   aimed (Bits r w a b) y = aims_plain (to_part r w a b) y.0 refl refl y.1
   aimed (Word c) y = aims_at (to_memory y.tree) c y.is y.pieces_are y.words_are y.code_is y.words_few y.pieces_few
-  aimed Nowhere y = record { aims = λ k. not_so false k refl; misses = λ k. y }
 
 -- the bits of a part that was read stand in their order
-pub in_order : (rs : List Named) (s : List ℕ) (from : Cursor) (now after : List ℕ) (p : Place) → Aims p (destination rs s) s from now after → InOrder p
+pub in_order : (rs : List Named) (s : List ℕ) (from : Cursor) (now after : List ℕ) (p : Place) → Aims (Some p) (destination rs s) s from now after → InOrder p
 in_order rs s from now after (Register r w) y = tt
 in_order rs s from now after (Bits r w a b) y = ordered rs s r w a b y.0
 in_order rs s from now after (Word c) y = tt
-in_order rs s from now after Nowhere y = tt
 
 -- the row of a `do` line, and what is missing where there is none
 row_formed : (c e : Expr) (x y : ℕ) (d : Destination) (r : DestinationReading) (v : Reading) → r ≡ leads d → v ≡ read e y
@@ -101,7 +94,7 @@ unfolding do_row
 no_condition d v w e = rw e
 
 -- condition, address and value, one behind the other
-module _ (c : Expr) (x w : ℕ) (from condition : Cursor) (before now : List ℕ) (h : Held c x condition w from before now)
+module _ (c : Expr) (x w : ℕ) (from condition : Cursor) (before now : List ℕ) (h : Held c x (part condition w) from before now)
     (d : Destination) (s : List ℕ) (aim : Aim) (mid : List ℕ) (a : Aiming d s aim condition now mid)
     (v : Reading) (end : Cursor) (u : ℕ) (after : List ℕ) (at : ℕ)
     (k : ReadAs v end u (record { place = at; words = aim.end.words; pieces = aim.end.pieces }) mid after) where
@@ -145,11 +138,10 @@ module _ (rs : List Named) (s : List ℕ) (r : RowRead) (from : Cursor) (before 
       → HasRow (do_row (read c x) (destination rs (field 2 s)) (expression rs (field 3 s))) r from before after
   with_fields c x f g e i h = rw (← e, ← i) h
 
-  pub with_condition : (c : Expr) (x : ℕ) (f : List ℕ) (d : DestinationReading) (v : Reading) → f ≡ field 1 s → expression rs f ≡ read c x
-      → HasRow (do_row (read c x) d v) r from before after
-      → HasRow (do_row (expression rs (field 1 s)) d v) r from before after
-  with_condition c x f d v e i h = rw (← e, i) h
-
-pub without_row : (rs : List Named) (s : List ℕ) (c : Expr) (x : ℕ) (f : List ℕ) (d : DestinationReading) (v : Reading) → f ≡ field 1 s
-    → expression rs f ≡ read c x → do_row (read c x) d v ≡ unformed → do_row (expression rs (field 1 s)) d v ≡ unformed
-without_row rs s c x f d v e i h = rw (← e, i) h
+-- a row behind a condition that was read, whatever comes of it
+pub acted : (rs : List Named) (s : List ℕ) (from condition : Cursor) (w : ℕ) (before now after : List ℕ) (f : List ℕ) → f ≡ field 1 s
+    → ReadAs (expression rs f) condition w from before now → (r : Option RowRead) → Acts rs s from.words condition r now after → Rows rs s from r before after
+acted rs s from condition w before now after f e k (Some r) h =
+    rw (← e, k.is) (h k.tree k.place w from before refl k.held)
+acted rs s from condition w before now after f e k None h =
+    rw (← e, k.is) (h k.tree k.place)

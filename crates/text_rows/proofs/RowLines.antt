@@ -9,6 +9,7 @@ use lib.Dec.{ltb, leb}
 use lib.ListN.{length}
 use lib.Seq.{sets}
 use borrow.Author.Tests.{ltb-true, leb-true}
+use Rattle.std.specs.Prelude.{Option, Result, Ok, Err, IfOk, Some}
 use Rattle.word.specs.Choice.{pick}
 use Rattle.text_fields.specs.Fields as text
 use Rattle.text_fields.specs.Fields.{field, has_fields, lines}
@@ -17,18 +18,13 @@ use Rattle.text_names.specs.Names.{is_name}
 use Rattle.laws.proofs.Joined.{and_left, and_right}
 use Rattle.laws.proofs.Tests.{by_test, not_so}
 use Rattle.text_code.specs.declared.Cursor.{Cursor}
-use Rattle.text_code.specs.declared.Part.TheVariants.{Found}
 use Rattle.text_code.specs.Tree.{Expr}
 use Rattle.text_code.specs.Readings.{Reading, read, outside, DestinationReading, leads, astray}
 use Rattle.text_expression.specs.Expression.{expression, destination}
-use Rattle.text_code.specs.Met.{Held, Meets}
+use Rattle.text_code.specs.Met.{Held, Meets, part}
 use Rattle.text_declaration.specs.declared.faults.Fault.{Fault}
 use Rattle.text_declaration.specs.declared.faults.Fault.TheVariants.{Line, Expression, Label, Limit}
 use Rattle.text_declaration.specs.declared.lines.Progress as code
-use Rattle.text_declaration.specs.declared.lines.Status.{Status}
-use Rattle.text_declaration.specs.declared.lines.Status.TheVariants.{Goes, Refused}
-use Rattle.text_declaration.specs.declared.lines.Step as taken
-use Rattle.text_targets.specs.declared.Target.{Target}
 use Rattle.text_declaration.specs.Rows.{Row, goes, row_pieces, pieces_of}
 use Rattle.text_limits.specs.Limits.{most_rows, all_pieces}
 use Rattle.text_declaration.specs.Lines.{Progress, with_row, Step, refused, next}
@@ -38,58 +34,50 @@ use Rattle.text_rows.specs.declared.actions.RowRead.{RowRead}
 use Rattle.text_rows.specs.Lines.{add_row, add_do, do_line, rows_passed, add_go, go_line}
 use Rattle.text_code.specs.RowTable.{row_cells}
 use Rattle.text_rows.specs.Cells.{go_cells}
-use Rattle.text_rows.specs.Stored.{Tables, Comes, Takes, first_gone, has_room, one_more, Put, RowReading, formed, unformed, do_row, take_row, Forming, Jumps, Assigns, Rows}
+use Rattle.text_rows.specs.Stored.{Tables, Comes, Takes, first_gone, has_room, one_more, Put, RowReading, formed, unformed, do_row, take_row, Forming, HasRow, Jumps}
 use Rattle.text_rows.proofs.Tables.{tables_more, row_code_pieces}
 
-abbrev is_goes : Status → Bool
-is_goes Goes = true
-is_goes (Refused f) = false
-
-not_goes : (f : Fault) {P : Type 0} → Refused f ≡ Goes → P
-not_goes f e = absurd (mathlib.Core.Bool.false≢true (ap is_goes e))
-
 -- a refused line leaves nothing to say of the tables
-pub takes_refused : (text : List ℕ) (g : Progress → Step) (gone : ℕ) (q : code.Progress) (f : Fault) (r : taken.Step) {code₁ code₂ table₁ table₂ : List ℕ}
-    → r ≡ record { progress = q; status = Refused f } → ((rs : List Row) → g (progress_of text q rs) ≡ refused f) → Within q
-    → Takes text g gone q r code₁ code₂ table₁ table₂
-takes_refused text g gone q f r {code₁} {code₂} {table₁} {table₂} e is h =
-    subst (λ (x : taken.Step). Takes text g gone q x code₁ code₂ table₁ table₂) (sym e)
-    (record { comes = λ rs code₀ table₀ t. record { rows = rs; is = is rs; holds = λ k. not_goes f k }; missing_is = λ k. not_goes f k; within = h })
+pub takes_refused : (text : List ℕ) (g : Progress → Step) (lost : Option ℕ) (q : code.Progress) (f : Fault) {code₁ code₂ table₁ table₂ : List ℕ}
+    → ((rs : List Row) → g (progress_of text q rs) ≡ refused f) → Takes text g lost q (Err f) code₁ code₂ table₁ table₂
+takes_refused text g lost q f is =
+    record { comes = λ rs code₀ table₀ t. record { rows = rs; is = is rs; holds = tt }; missing_is = tt; within = tt }
 
 -- a line whose definition says the same
-pub takes_as : (text : List ℕ) (f g : Progress → Step) (gone gone' : ℕ) (q : code.Progress) (r : taken.Step) {code₁ code₂ table₁ table₂ : List ℕ}
-    → ((rs : List Row) → f (progress_of text q rs) ≡ g (progress_of text q rs)) → gone' ≡ gone → Takes text g gone q r code₁ code₂ table₁ table₂
-    → Takes text f gone' q r code₁ code₂ table₁ table₂
-takes_as text f g gone gone' q r {code₁} {code₂} {table₁} {table₂} e i p =
+pub takes_as : (text : List ℕ) (f g : Progress → Step) (lost lost' : Option ℕ) (q : code.Progress) (r : Result code.Progress Fault) {code₁ code₂ table₁ table₂ : List ℕ}
+    → ((rs : List Row) → f (progress_of text q rs) ≡ g (progress_of text q rs)) → lost' ≡ lost → Takes text g lost q r code₁ code₂ table₁ table₂
+    → Takes text f lost' q r code₁ code₂ table₁ table₂
+takes_as text f g lost lost' q r {code₁} {code₂} {table₁} {table₂} e i p =
     record {
       comes = λ rs code₀ table₀ t.
           let k = p.comes rs code₀ table₀ t in
           record { rows = k.rows; is = e rs ∙ k.is; holds = k.holds };
-      missing_is = λ k. p.missing_is k ∙ sym i;
+      missing_is = subst (λ (m : Option ℕ). IfOk r (λ (z : code.Progress). z.missing ≡ m)) (sym i) p.missing_is;
       within = p.within;
     }
 
 -- a line that adds no row leaves the tables
-pub takes_plain : (text : List ℕ) (g : Progress → Step) (q : code.Progress) (r : taken.Step) {code₁ table₁ : List ℕ} → Plain text g q r
+pub takes_plain : (text : List ℕ) (g : Progress → Step) (q : code.Progress) (r : Result code.Progress Fault) {code₁ table₁ : List ℕ} → Plain text g q r
     → Takes text g q.missing q r code₁ code₁ table₁ table₁
-takes_plain text g q r {code₁} {table₁} p =
+takes_plain text g q (Ok p) {code₁} {table₁} k =
     record {
       comes = λ rs code₀ table₀ t.
           record {
             rows = rs;
-            is = p.is rs t.rows_are;
-            holds = λ k.
-                record {
-                  rows_are = p.same_rows ∙ t.rows_are;
-                  pieces_are = p.same_pieces ∙ t.pieces_are;
-                  words_are = ap (λ (n : ℕ). 4 * n) p.same_words ∙ t.words_are;
-                  code_is = t.code_is;
-                  table_is = t.table_is;
-                };
+            is = k.is rs t.rows_are;
+            holds = record {
+              rows_are = k.stays.same_rows ∙ t.rows_are;
+              pieces_are = k.stays.same_pieces ∙ t.pieces_are;
+              words_are = ap (λ (n : ℕ). 4 * n) k.stays.same_words ∙ t.words_are;
+              code_is = t.code_is;
+              table_is = t.table_is;
+            };
           };
-      missing_is = λ k. p.same_missing;
-      within = p.within;
+      missing_is = k.stays.same_missing;
+      within = k.stays.within;
     }
+takes_plain text g q (Err f) k =
+    record { comes = λ rs code₀ table₀ t. record { rows = rs; is = k.is rs t.rows_are; holds = tt }; missing_is = tt; within = tt }
 
 -- a row more, where there is room for it
 module _ (p : Progress) (row : Row) where
@@ -109,16 +97,16 @@ abbrev pub before : code.Progress → Cursor
 before q = record { place = 0; words = q.words; pieces = q.pieces }
 
 -- a row that was read and put into the table, if there is room
-module _ (text : List ℕ) (q : code.Progress) (h : Within q) (row : Row) (cs : List ℕ) (end : Cursor) (gone : ℕ) (r : taken.Step)
-    {code₁ code₂ table₁ table₂ : List ℕ} (forms : Forming row cs end (before q) code₁ code₂) (put : Put q cs end gone r table₁ table₂) where
+module _ (text : List ℕ) (q : code.Progress) (h : Within q) (row : Row) (cs : List ℕ) (end : Cursor) (lost : Option ℕ) (r : Result code.Progress Fault)
+    {code₁ code₂ table₁ table₂ : List ℕ} (forms : Forming row cs end (before q) code₁ code₂) (put : Put q cs end lost r table₁ table₂) where
   abbrev room : Bool
   room = has_room q end
 
-  abbrev more : taken.Step
-  more = record { progress = one_more q end gone; status = Goes }
+  abbrev more : Result code.Progress Fault
+  more = Ok (one_more q end lost)
 
-  abbrev full : taken.Step
-  full = record { progress = q; status = Refused Limit }
+  abbrev full : Result code.Progress Fault
+  full = Err Limit
 
   row_room : (rs : List Row) {code₀ table₀ : List ℕ} → Tables rs q code₀ code₁ table₀ table₁ → fits (progress_of text q rs) row ≡ room
   row_room rs t =
@@ -132,14 +120,14 @@ module _ (text : List ℕ) (q : code.Progress) (h : Within q) (row : Row) (cs : 
       record {
         rows = rs ++ (row ∷ []);
         is = row_added (progress_of text q rs) row (row_room rs t ∙ u);
-        holds = λ k.
+        holds =
             tables_more rs row t refl forms.pieces_are forms.code_is forms.words_are
             (put.table_is
             ∙ ap (λ (b : Bool). pick b (sets table₁ (row_cells * q.rows) cs) table₁) u
             ∙ ap (sets table₁ (row_cells * q.rows)) forms.cells_are);
       }
 
-  within_more : room ≡ true → Within (one_more q end gone)
+  within_more : room ≡ true → Within (one_more q end lost)
   within_more u =
       let l = ltb-true q.rows most_rows (and_left (ltb q.rows most_rows) (leb end.pieces all_pieces) u) in
       record {
@@ -150,19 +138,18 @@ module _ (text : List ℕ) (q : code.Progress) (h : Within q) (row : Row) (cs : 
         few_pieces = leb-true end.pieces all_pieces (and_right (ltb q.rows most_rows) (leb end.pieces all_pieces) u);
       }
 
-  takes_row : Takes text (λ (p : Progress). add_row p row) gone q r code₁ code₂ table₁ table₂
+  takes_row : Takes text (λ (p : Progress). add_row p row) lost q r code₁ code₂ table₁ table₂
   takes_row =
       by_test room
       (λ u.
-      subst (λ (x : taken.Step). Takes text (λ (p : Progress). add_row p row) gone q x code₁ code₂ table₁ table₂) (sym (put.is ∙ ap (λ (b : Bool). pick b more full) u))
-      (record { comes = λ rs code₀ table₀ t. added u rs code₀ table₀ t; missing_is = λ k. refl; within = within_more u }))
+      subst (λ (x : Result code.Progress Fault). Takes text (λ (p : Progress). add_row p row) lost q x code₁ code₂ table₁ table₂) (sym (put.is ∙ ap (λ (b : Bool). pick b more full) u))
+      (record { comes = λ rs code₀ table₀ t. added u rs code₀ table₀ t; missing_is = refl; within = within_more u }))
       (λ u.
-      subst (λ (x : taken.Step). Takes text (λ (p : Progress). add_row p row) gone q x code₁ code₂ table₁ table₂) (sym (put.is ∙ ap (λ (b : Bool). pick b more full) u))
+      subst (λ (x : Result code.Progress Fault). Takes text (λ (p : Progress). add_row p row) lost q x code₁ code₂ table₁ table₂) (sym (put.is ∙ ap (λ (b : Bool). pick b more full) u))
       (record {
-        comes = λ rs code₀ table₀ t.
-            record { rows = rs; is = row_full (progress_of text q rs) row (row_room rs t ∙ u); holds = λ k. not_goes Limit k };
-        missing_is = λ k. not_goes Limit k;
-        within = h;
+        comes = λ rs code₀ table₀ t. record { rows = rs; is = row_full (progress_of text q rs) row (row_room rs t ∙ u); holds = tt };
+        missing_is = tt;
+        within = tt;
       }))
 
 -- an expression that was read
@@ -170,19 +157,19 @@ pub record ReadAs (x : Reading) (end : Cursor) (w : ℕ) (from : Cursor) (now af
   pub tree : Expr
   pub place : ℕ
   pub is : x ≡ read tree place
-  pub held : Held tree place end w from now after
+  pub held : Held tree place (part end w) from now after
 
-pub read_as : (x : Reading) (end : Cursor) (w : ℕ) (from : Cursor) (now after : List ℕ) → Meets x (Found end w) from now after → ReadAs x end w from now after
+pub read_as : (x : Reading) (end : Cursor) (w : ℕ) (from : Cursor) (now after : List ℕ) → Meets x (Some (part end w)) from now after → ReadAs x end w from now after
 read_as (read t p) end w from now after m = record { tree = t; place = p; is = refl; held = m }
 read_as outside end w from now after m = absurd m
 
 -- where a `go` line's label stands in what is below it
-abbrev target_of : List ℕ → List ℕ → Target
+abbrev target_of : List ℕ → List ℕ → Option ℕ
 target_of line below = passes (field 2 line) (lines below)
 
 -- `go` lines
 module _ (p : Progress) (s below : List ℕ) where
-  abbrev target : Target
+  abbrev target : Option ℕ
   target = target_of s below
 
   abbrev condition : Reading
@@ -206,7 +193,7 @@ module _ (p : Progress) (s below : List ℕ) where
   go_unread t e = rw (t, e, add_go, go_line)
 
 -- the cells of a `go` are those of its row
-go_forms : (q : code.Progress) (c : Expr) (x : ℕ) (end : Cursor) (w passed : ℕ) (now after : List ℕ) → Held c x end w (before q) now after
+go_forms : (q : code.Progress) (c : Expr) (x : ℕ) (end : Cursor) (w passed : ℕ) (now after : List ℕ) → Held c x (part end w) (before q) now after
     → Forming (goes c passed) (go_cells q.words end.words passed) end (before q) now after
 go_forms q c x end w passed now after h =
     record {
@@ -218,7 +205,7 @@ go_forms q c x end w passed now after h =
 
 -- a `go` line whose condition was read
 module _ (text : List ℕ) (q : code.Progress) (h : Within q) (n : ℕ) (line below f : List ℕ) (fields : has_fields 3 line ≡ true) (first : f ≡ field 1 line)
-    (end : Cursor) (w : ℕ) (code₁ code₂ : List ℕ) (m : Meets (expression (entries text q.registers) f) (Found end w) (before q) code₁ code₂) where
+    (end : Cursor) (w : ℕ) (code₁ code₂ : List ℕ) (m : Meets (expression (entries text q.registers) f) (Some (part end w)) (before q) code₁ code₂) where
   abbrev found : ReadAs (expression (entries text q.registers) f) end w (before q) code₁ code₂
   found = read_as (expression (entries text q.registers) f) end w (before q) code₁ code₂ m
 
@@ -228,39 +215,39 @@ module _ (text : List ℕ) (q : code.Progress) (h : Within q) (n : ℕ) (line be
   abbrev passed : ℕ
   passed = rows_passed (target_of line below)
 
-  abbrev gone : ℕ
-  gone = first_gone (is_missing (target_of line below)) n q.missing
+  abbrev lost : Option ℕ
+  lost = first_gone (is_missing (target_of line below)) n q.missing
 
-  pub go_jumps : (r : taken.Step) {table₁ table₂ : List ℕ} → Jumps q n (field 2 line) (lines below) end r table₁ table₂
-      → Takes text (λ (p : Progress). go_line p (lines below) line) gone q r code₁ code₂ table₁ table₂
-  go_jumps r j =
+  pub go_jumps : (r : Result code.Progress Fault) {table₁ table₂ : List ℕ} → Jumps q n (field 2 line) (lines below) end r table₁ table₂
+      → Takes text (λ (p : Progress). go_line p (lines below) line) lost q r code₁ code₂ table₁ table₂
+  go_jumps r {table₁} {table₂} j =
       by_test (is_name (field 2 line))
       (λ u.
-      takes_as text (λ (p : Progress). go_line p (lines below) line) (λ (p : Progress). add_row p (goes found.tree passed)) gone gone q r
+      takes_as text (λ (p : Progress). go_line p (lines below) line) (λ (p : Progress). add_row p (goes found.tree passed)) lost lost q r
       (λ rs. go_taken (progress_of text q rs) line below found.tree found.place fields condition_is u) refl
-      (takes_row text q h (goes found.tree passed) (go_cells q.words end.words passed) end gone r
+      (takes_row text q h (goes found.tree passed) (go_cells q.words end.words passed) end lost r
       (go_forms q found.tree found.place end w passed code₁ code₂ found.held) (j.named u)))
       (λ u.
-      takes_refused text (λ (p : Progress). go_line p (lines below) line) gone q Label r (j.nameless u)
-      (λ rs. go_unnamed (progress_of text q rs) line below found.tree found.place fields condition_is u)
-      h)
+      subst (λ (x : Result code.Progress Fault). Takes text (λ (p : Progress). go_line p (lines below) line) lost q x code₁ code₂ table₁ table₂) (sym (j.nameless u))
+      (takes_refused text (λ (p : Progress). go_line p (lines below) line) lost q Label
+      (λ rs. go_unnamed (progress_of text q rs) line below found.tree found.place fields condition_is u)))
 
 -- a `go` by the label that the code holds
-module _ (q : code.Progress) (n : ℕ) (label held : List ℕ) (below : List text.Line) (second : held ≡ label) (end : Cursor) (r : taken.Step)
+module _ (q : code.Progress) (n : ℕ) (label held : List ℕ) (below : List text.Line) (second : held ≡ label) (end : Cursor) (r : Result code.Progress Fault)
     {table₁ table₂ : List ℕ} where
-  pub jumps : is_name held ≡ true → (t : Target) → t ≡ passes held below → (passed gone : ℕ) → passed ≡ rows_passed t → gone ≡ first_gone (is_missing t) n q.missing
-      → (cs : List ℕ) → cs ≡ go_cells q.words end.words passed → Put q cs end gone r table₁ table₂ → Jumps q n label below end r table₁ table₂
-  jumps named t there passed gone i j cs e put =
+  pub jumps : is_name held ≡ true → (t : Option ℕ) → t ≡ passes held below → (passed : ℕ) (lost : Option ℕ) → passed ≡ rows_passed t → lost ≡ first_gone (is_missing t) n q.missing
+      → (cs : List ℕ) → cs ≡ go_cells q.words end.words passed → Put q cs end lost r table₁ table₂ → Jumps q n label below end r table₁ table₂
+  jumps named t there passed lost i j cs e put =
       let there' = there ∙ ap (λ (l : List ℕ). passes l below) second in
       record {
         named = λ u.
-            subst (λ (m : ℕ). Put q (go_cells q.words end.words (rows_passed (passes label below))) end m r table₁ table₂)
-            (j ∙ ap (λ (z : Target). first_gone (is_missing z) n q.missing) there')
-            (subst (λ (c : List ℕ). Put q c end gone r table₁ table₂) (e ∙ ap (go_cells q.words end.words) (i ∙ ap rows_passed there')) put);
+            subst (λ (m : Option ℕ). Put q (go_cells q.words end.words (rows_passed (passes label below))) end m r table₁ table₂)
+            (j ∙ ap (λ (z : Option ℕ). first_gone (is_missing z) n q.missing) there')
+            (subst (λ (c : List ℕ). Put q c end lost r table₁ table₂) (e ∙ ap (go_cells q.words end.words) (i ∙ ap rows_passed there')) put);
         nameless = λ u. not_so (is_name label) (ap is_name (sym second) ∙ named) u;
       }
 
-  pub jumps_nowhere : is_name held ≡ false → r ≡ record { progress = q; status = Refused Label } → Jumps q n label below end r table₁ table₂
+  pub jumps_nowhere : is_name held ≡ false → r ≡ Err Label → Jumps q n label below end r table₁ table₂
   jumps_nowhere named e =
       record { named = λ u. not_so (is_name label) u (ap is_name (sym second) ∙ named); nameless = λ u. e }
 
@@ -292,18 +279,20 @@ module _ (p : Progress) (s : List ℕ) where
   do_unread : has_fields 4 s ≡ true → reading ≡ unformed → do_line p s ≡ refused Expression
   do_unread t e = do_read t ∙ ap (take_row p) e
 
--- a `do` line: the row that was read, if one was
-pub do_assigned : (text : List ℕ) (q : code.Progress) → Within q → (line : List ℕ) → has_fields 4 line ≡ true
-    → (x : RowRead) (r : taken.Step) {code₁ code₂ table₁ table₂ : List ℕ}
-    → Rows (entries text q.registers) line (before q) x code₁ code₂ → Assigns q x r table₁ table₂
-    → Takes text (λ (p : Progress). do_line p line) q.missing q r code₁ code₂ table₁ table₂
-do_assigned text q h line fields x r rows a =
-    by_test x.found
-    (λ u.
-    takes_as text (λ (p : Progress). do_line p line) (λ (p : Progress). add_row p (rows.forms u).row) q.missing q.missing q r
-    (λ rs. do_taken (progress_of text q rs) line (rows.forms u).row fields (rows.forms u).is) refl
-    (takes_row text q h (rows.forms u).row x.cells x.end q.missing r (rows.forms u).forms (a.added u)))
-    (λ u.
-    takes_refused text (λ (p : Progress). do_line p line) q.missing q Expression r (a.lost u)
-    (λ rs. do_unread (progress_of text q rs) line fields (rows.lacks u))
-    h)
+-- a `do` line whose row was read, and one without
+module _ (text : List ℕ) (q : code.Progress) (line : List ℕ) (fields : has_fields 4 line ≡ true) where
+  abbrev assigned : RowReading
+  assigned = reading (progress_of text q []) line
+
+  pub do_assigned : Within q → (x : RowRead) (r : Result code.Progress Fault) {code₁ code₂ table₁ table₂ : List ℕ}
+      → HasRow assigned x (before q) code₁ code₂ → Put q x.cells x.end q.missing r table₁ table₂
+      → Takes text (λ (p : Progress). do_line p line) q.missing q r code₁ code₂ table₁ table₂
+  do_assigned h x r k put =
+      takes_as text (λ (p : Progress). do_line p line) (λ (p : Progress). add_row p k.row) q.missing q.missing q r
+      (λ rs. do_taken (progress_of text q rs) line k.row fields k.is) refl
+      (takes_row text q h k.row x.cells x.end q.missing r k.forms put)
+
+  pub do_unassigned : {code₁ code₂ table₁ table₂ : List ℕ} → assigned ≡ unformed
+      → Takes text (λ (p : Progress). do_line p line) q.missing q (Err Expression) code₁ code₂ table₁ table₂
+  do_unassigned e =
+      takes_refused text (λ (p : Progress). do_line p line) q.missing q Expression (λ rs. do_unread (progress_of text q rs) line fields e)

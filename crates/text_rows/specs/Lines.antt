@@ -1,15 +1,13 @@
 -- The lines of rows: what a `do` or a `go` line adds to what was read so far, or what it is turned down for.
 -- "within one, lower numbers first, left field first"
 -- Assumes nothing.
-use Rattle.std.specs.Prelude.{ℕ, ◌+◌, ◌&&◌, List, leb, ltb, length}
+use Rattle.std.specs.Prelude.{ℕ, ◌+◌, ◌&&◌, List, leb, ltb, length, Option, unwrap_or}
 use Rattle.text_fields.specs.Fields as text
 use Rattle.text_fields.specs.Fields.{field, has_fields}
 use Rattle.text_names.specs.Names.{is_name}
 use Rattle.text_code.specs.Tree.{Reading, read, outside, DestinationReading, leads, astray}
 use Rattle.text_expression.specs.Expression.{expression, destination}
 use Rattle.text_declaration.specs.declared.faults.Fault.TheVariants.{Line, Expression, Label, Limit}
-use Rattle.text_targets.specs.declared.Target.{Target}
-use Rattle.text_targets.specs.declared.Target.TheVariants.{Passes, Missing}
 use Rattle.text_declaration.specs.Rows.{Row, does, goes, row_pieces, pieces_of}
 use Rattle.text_limits.specs.Limits.{most_rows, all_pieces}
 use Rattle.text_declaration.specs.Lines.{Progress, with_row, Step, refused, next, kept}
@@ -33,12 +31,11 @@ do_line p s =
     (add_do p (expression p.registers (field 1 s)) (destination p.registers (field 2 s)) (expression p.registers (field 3 s)))
 
 -- the rows passed over. A text in which a label is missing is turned down after all lines, whatever stands here for it.
-abbrev pub rows_passed : Target → ℕ
-rows_passed (Passes n) = n
-rows_passed Missing = 0
+abbrev pub rows_passed : Option ℕ → ℕ
+rows_passed target = unwrap_or target 0
 
 -- "a malformed `go` label"
-unfoldable pub add_go : Progress → List ℕ → Target → Reading → Step
+unfoldable pub add_go : Progress → List ℕ → Option ℕ → Reading → Step
 add_go p label t (read c x) = kept (is_name label) Label (add_row p (goes c (rows_passed t)))
 add_go p label t outside = refused Expression
 

@@ -1,6 +1,6 @@
 -- What the lent tables hold of the rows, and what reading a row promises of them.
 -- Assumes nothing.
-use Rattle.std.specs.Prelude.{◌≡◌, Bool, true, false, ◌&&◌, List, ℕ, ◌+◌, ◌-◌, ◌*◌, ◌≤◌, ◌<◌, eqb, leb, ltb, length}
+use Rattle.std.specs.Prelude.{◌≡◌, Bool, true, false, ◌&&◌, List, ℕ, ◌+◌, ◌-◌, ◌*◌, ◌≤◌, ◌<◌, leb, ltb, length, Option, Some, None, MatchOption, Result, Ok, Err, IfOk}
 use Rattle.std.proofs.lemmas.List.Edits.{sets}
 use Rattle.word.specs.Choice.{pick}
 use Rattle.text_fields.specs.Fields as text
@@ -11,13 +11,12 @@ use Rattle.text_code.specs.Tree.{Expr, Destination}
 use Rattle.text_code.specs.Readings.{Reading, read, outside, DestinationReading, leads, astray}
 use Rattle.text_expression.specs.Expression.{expression, destination}
 use Rattle.text_expression.specs.declared.Place.{Place}
-use Rattle.text_expression.specs.declared.Place.TheVariants.{Register, Bits, Word, Nowhere}
-use Rattle.text_code.specs.Met.{Held}
+use Rattle.text_expression.specs.declared.Place.TheVariants.{Register, Bits, Word}
+use Rattle.text_code.specs.Met.{Held, part}
 use Rattle.text_code.specs.declared.Cursor.{Cursor}
+use Rattle.text_declaration.specs.declared.faults.Fault.{Fault}
 use Rattle.text_declaration.specs.declared.faults.Fault.TheVariants.{Limit, Label, Expression}
 use Rattle.text_declaration.specs.declared.lines.Progress as progress
-use Rattle.text_declaration.specs.declared.lines.Status.TheVariants.{Goes, Refused}
-use Rattle.text_declaration.specs.declared.lines.Step as step
 use Rattle.text_declaration.specs.Rows.{Row, does, row_pieces, pieces_of, address_pieces}
 use Rattle.text_limits.specs.Limits.{most_rows, all_pieces}
 use Rattle.text_declaration.specs.Lines.{Progress, Step, refused}
@@ -38,28 +37,29 @@ pub record Tables (rs : List Row) (q : progress.Progress) (code₀ code₁ table
   pub table_is : table₁ ≡ sets table₀ 0 (cells 0 rs)
 
 -- what a line comes to, with the rows behind it
-pub record Comes (text : List ℕ) (x : Step) (r : step.Step) (code₀ code₁ table₀ table₁ : List ℕ) : Type 0 where
+pub record Comes (text : List ℕ) (x : Step) (r : Result progress.Progress Fault) (code₀ code₁ table₀ table₁ : List ℕ) : Type 0 where
   pub rows : List Row
   pub is : x ≡ step_of text r rows
-  pub holds : r.status ≡ Goes → Tables rows r.progress code₀ code₁ table₀ table₁
+  pub holds : IfOk r (λ p. Tables rows p code₀ code₁ table₀ table₁)
 
 -- a line, whatever the rows before it are, and the first `go` without its label that the code then holds
-pub record Takes (text : List ℕ) (f : Progress → Step) (gone : ℕ) (q : progress.Progress) (r : step.Step) (code₁ code₂ table₁ table₂ : List ℕ) : Type 0 where
+pub record Takes (text : List ℕ) (f : Progress → Step) (gone : Option ℕ) (q : progress.Progress) (r : Result progress.Progress Fault) (code₁ code₂ table₁ table₂ : List ℕ) : Type 0 where
   pub comes : (rs : List Row) (code₀ table₀ : List ℕ) → Tables rs q code₀ code₁ table₀ table₁
       → Comes text (f (progress_of text q rs)) r code₀ code₂ table₀ table₂
-  pub missing_is : r.status ≡ Goes → r.progress.missing ≡ gone
-  pub within : Within r.progress
+  pub missing_is : IfOk r (λ p. p.missing ≡ gone)
+  pub within : IfOk r (λ p. Within p)
 
--- the line of the first `go` without its label, as the code holds it, 0 for none: line n, if its label is missing and none was before it
-abbrev pub first_gone : Bool → ℕ → ℕ → ℕ
-first_gone true n before = elim (eqb before 0) [ true ↦ n | false ↦ before ]
+-- the line of the first `go` without its label, as the code holds it: line n, if its label is missing and none was before it
+abbrev pub first_gone : Bool → ℕ → Option ℕ → Option ℕ
+first_gone true n (Some before) = Some before
+first_gone true n None = Some n
 first_gone false n before = before
 
 -- whether there is room for a row more, and for its pieces
 abbrev pub has_room : progress.Progress → Cursor → Bool
 has_room q end = ltb q.rows most_rows && leb end.pieces all_pieces
 
-abbrev pub one_more : progress.Progress → Cursor → ℕ → progress.Progress
+abbrev pub one_more : progress.Progress → Cursor → Option ℕ → progress.Progress
 one_more q end gone =
     record {
       registers = q.registers;
@@ -71,34 +71,27 @@ one_more q end gone =
     }
 
 -- a row's cells put behind those of the rows before it, if there is room
-pub record Put (q : progress.Progress) (cs : List ℕ) (end : Cursor) (gone : ℕ) (r : step.Step) (before after : List ℕ) : Type 0 where
-  pub is : r ≡ pick (has_room q end) (record { progress = one_more q end gone; status = Goes }) (record { progress = q; status = Refused Limit })
+pub record Put (q : progress.Progress) (cs : List ℕ) (end : Cursor) (gone : Option ℕ) (r : Result progress.Progress Fault) (before after : List ℕ) : Type 0 where
+  pub is : r ≡ pick (has_room q end) (Ok (one_more q end gone)) (Err Limit)
   pub table_is : after ≡ pick (has_room q end) (sets before (row_cells * q.rows) cs) before
 
 -- a `go` whose condition was read: its row, if its label is a name
-pub record Jumps (q : progress.Progress) (n : ℕ) (label : List ℕ) (below : List text.Line) (end : Cursor) (r : step.Step) (before after : List ℕ) : Type 0 where
+pub record Jumps (q : progress.Progress) (n : ℕ) (label : List ℕ) (below : List text.Line) (end : Cursor) (r : Result progress.Progress Fault) (before after : List ℕ) : Type 0 where
   pub named : is_name label ≡ true
       → Put q (go_cells q.words end.words (rows_passed (passes label below))) end (first_gone (is_missing (passes label below)) n q.missing) r before after
-  pub nameless : is_name label ≡ false → r ≡ record { progress = q; status = Refused Label }
-
--- the row of a `do`, if one was read
-pub record Assigns (q : progress.Progress) (x : RowRead) (r : step.Step) (before after : List ℕ) : Type 0 where
-  pub added : x.found ≡ true → Put q x.cells x.end q.missing r before after
-  pub lost : x.found ≡ false → r ≡ record { progress = q; status = Refused Expression }
+  pub nameless : is_name label ≡ false → r ≡ Err Label
 
 -- the bits of a part stand in their order, within the register
 abbrev pub InOrder : Place → Type 0
 InOrder (Register r w) = Unit {0}
 InOrder (Bits r w a b) = (a ≤ b) × (b < w)
 InOrder (Word c) = Unit {0}
-InOrder Nowhere = Unit {0}
 
 -- the cells of a place
 abbrev pub aim_of : Place → Cursor → Aim
-aim_of (Register r w) from = record { kind = register_row; register = r; right = 0; size = w; end = from; found = true }
-aim_of (Bits r w a b) from = record { kind = part_row; register = r; right = w - 1 - b; size = b - a + 1; end = from; found = true }
-aim_of (Word c) from = record { kind = memory_row; register = 0; right = 0; size = 0; end = c; found = true }
-aim_of Nowhere from = record { kind = register_row; register = 0; right = 0; size = 0; end = from; found = false }
+aim_of (Register r w) from = record { kind = register_row; register = r; right = 0; size = w; end = from }
+aim_of (Bits r w a b) from = record { kind = part_row; register = r; right = w - 1 - b; size = b - a + 1; end = from }
+aim_of (Word c) from = record { kind = memory_row; register = 0; right = 0; size = 0; end = c }
 
 -- a destination that was read: its cells, and its address's words and pieces behind those before it
 pub record Aiming (x : Destination) (s : List ℕ) (a : Aim) (from : Cursor) (before after : List ℕ) : Type 0 where
@@ -117,9 +110,8 @@ pub record Reached (x : DestinationReading) (s : List ℕ) (a : Aim) (from : Cur
   pub is : x ≡ leads to
   pub aiming : Aiming to s a from before after
 
-pub record Aimed (x : DestinationReading) (s : List ℕ) (a : Aim) (from : Cursor) (before after : List ℕ) : Type 0 where
-  pub aims : a.found ≡ true → Reached x s a from before after
-  pub misses : a.found ≡ false → x ≡ astray
+abbrev pub Aimed : DestinationReading → List ℕ → Option Aim → Cursor → List ℕ → List ℕ → Type 0
+Aimed x s r from before after = MatchOption r (x ≡ astray) (λ a. Reached x s a from before after)
 
 -- the row that the three parts of a `do` make, or none
 pub data RowReading : Type 0 where
@@ -149,12 +141,16 @@ pub record HasRow (x : RowReading) (r : RowRead) (from : Cursor) (before after :
   pub forms : Forming row r.cells r.end from before after
 
 -- the row of a `do` line
-pub record Rows (rs : List Named) (s : List ℕ) (from : Cursor) (r : RowRead) (before after : List ℕ) : Type 0 where
-  pub forms : r.found ≡ true → HasRow (do_row (expression rs (field 1 s)) (destination rs (field 2 s)) (expression rs (field 3 s))) r from before after
-  pub lacks : r.found ≡ false → do_row (expression rs (field 1 s)) (destination rs (field 2 s)) (expression rs (field 3 s)) ≡ unformed
+abbrev pub Rows : List Named → List ℕ → Cursor → Option RowRead → List ℕ → List ℕ → Type 0
+Rows rs s from r before after =
+    MatchOption r
+    (do_row (expression rs (field 1 s)) (destination rs (field 2 s)) (expression rs (field 3 s)) ≡ unformed)
+    (λ w. HasRow (do_row (expression rs (field 1 s)) (destination rs (field 2 s)) (expression rs (field 3 s))) w from before after)
 
 -- the same behind a condition that was read, whatever that is
-pub record Acts (rs : List Named) (s : List ℕ) (start : ℕ) (condition : Cursor) (r : RowRead) (now after : List ℕ) : Type 0 where
-  pub forms : r.found ≡ true → (c : Expr) (x w : ℕ) (from : Cursor) (before : List ℕ) → from.words ≡ start → Held c x condition w from before now
-      → HasRow (do_row (read c x) (destination rs (field 2 s)) (expression rs (field 3 s))) r from before after
-  pub lacks : r.found ≡ false → (c : Expr) (x : ℕ) → do_row (read c x) (destination rs (field 2 s)) (expression rs (field 3 s)) ≡ unformed
+abbrev pub Acts : List Named → List ℕ → ℕ → Cursor → Option RowRead → List ℕ → List ℕ → Type 0
+Acts rs s start condition r now after =
+    MatchOption r
+    ((c : Expr) (x : ℕ) → do_row (read c x) (destination rs (field 2 s)) (expression rs (field 3 s)) ≡ unformed)
+    (λ row. (c : Expr) (x w : ℕ) (from : Cursor) (before : List ℕ) → from.words ≡ start → Held c x (part condition w) from before now
+    → HasRow (do_row (read c x) (destination rs (field 2 s)) (expression rs (field 3 s))) row from before after)

@@ -12,12 +12,12 @@ use text_code::{Cursor, row_table};
 // Where a row's value goes: the cells of its destination, and how far its address reaches.
 #[derive(Clone, Copy)]
 pub struct Aim {
+    // a number, since it becomes a cell of the lent table, whose cells are numbers
     pub kind: u16,
     pub register: u16,
     pub right: u16,
     pub size: u16,
     pub end: Cursor,
-    pub found: bool,
 }
 
 // Puts the cells of a row into the table.
@@ -26,17 +26,13 @@ pub(crate) fn put_row(table: &mut [u16; TABLE_CELLS], row: usize, cells: [u16; R
     ensures { table.new ≡ sets table.old (row_cells * row) cells }
 {
     let at = ROW_CELLS * row;
-    let mut i = 0;
-    while i < ROW_CELLS {
-        table[at + i] = cells[i];
-        i += 1;
-    }
+    table[at..at + ROW_CELLS].copy_from_slice(&cells);
 }
 
 // The cells of a `go` whose condition has the words from start to end.
 pub(crate) fn go_cells(start: usize, end: usize, passed: u16) -> [u16; ROW_CELLS]
-    requires fact_1 { start ≤ capacity }
-    requires fact_2 { end ≤ capacity }
+    requires start_in_table { start ≤ capacity }
+    requires end_in_table { end ≤ capacity }
     ensures { result ≡ go_cells start end passed }
 {
     let first = (4 * start) as u16;

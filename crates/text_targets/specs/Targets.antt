@@ -1,10 +1,8 @@
 -- Which lines are rows, where a `go` leads: the rows down to its label; and which `go` leads nowhere.
 -- Assumes nothing.
-use Rattle.std.specs.Prelude.{ℕ, ◌+◌, Bool, true, false, ◌&&◌, ◌||◌, List, [], ◌∷◌}
+use Rattle.std.specs.Prelude.{ℕ, ◌+◌, Bool, true, false, ◌&&◌, ◌||◌, List, [], ◌∷◌, Option, Some, None}
 use Rattle.characters.specs.Characters.{same}
 use Rattle.text_fields.specs.Fields.{Line, field}
-use Rattle.text_targets.specs.declared.Target.{Target}
-use Rattle.text_targets.specs.declared.Target.TheVariants.{Passes, Missing}
 use Rattle.text_declaration.specs.Lines.{do_word, go_word, at_word}
 
 -- whether a line is the `at` line of a label
@@ -19,23 +17,23 @@ abbrev pub is_row : List ℕ → Bool
 is_row s = same (field 0 s) do_word || is_go s
 
 -- so many rows further down
-abbrev pub further : ℕ → Target → Target
-further k (Passes n) = Passes (k + n)
-further k Missing = Missing
+abbrev pub further : ℕ → Option ℕ → Option ℕ
+further k (Some n) = Some (k + n)
+further k None = None
 
--- "continue after that label, which must stand lower": the rows down to the line that has it
-unfoldable pub passes : List ℕ → List Line → Target
-passes label [] = Missing
+-- "continue after that label, which must stand lower": the rows down to the line that has it, or none
+unfoldable pub passes : List ℕ → List Line → Option ℕ
+passes label [] = None
 passes label (l ∷ ls) =
     elim (is_at label l.bytes) [
-      | true ↦ Passes 0
+      | true ↦ Some 0
       | false ↦ elim (is_row l.bytes) [ true ↦ further 1 (passes label ls) | false ↦ passes label ls ]
     ]
 
 -- "a `go` without its label lower down"
-abbrev pub is_missing : Target → Bool
-is_missing (Passes n) = false
-is_missing Missing = true
+abbrev pub is_missing : Option ℕ → Bool
+is_missing (Some n) = false
+is_missing None = true
 
 abbrev pub lacks_label : List ℕ → List Line → Bool
 lacks_label s below = is_go s && is_missing (passes (field 2 s) below)

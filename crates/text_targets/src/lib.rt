@@ -6,14 +6,7 @@ ghost use Rattle.text_fields.specs.Fields.{lines};
 ghost use Rattle.text_limits.specs.Limits.{most_bytes};
 ghost use Rattle.text_targets.specs.Targets.{is_at, is_row, passes as Targets·passes};
 
-use characters::LINE_FEED;
-
-// The rows that a `go` passes over, or that its label isn't lower down.
-#[derive(Clone, Copy)]
-pub enum Target {
-    Passes(u16),
-    Missing,
-}
+use text_fields::by_line::lines_of;
 
 // Whether a line is the `at` line of a label.
 fn is_at(line: &[u8], label: &[u8]) -> bool
@@ -31,23 +24,19 @@ pub fn is_row(line: &[u8]) -> bool
     characters::is_same(first, b"do") | characters::is_same(first, b"go")
 }
 
-// The rows down to the line of a label, among the lines of what stands below.
-pub fn passes(label: &[u8], below: &[u8]) -> Target
+// The rows down to the line of a label, among the lines of what stands below: none where the label isn't there.
+pub fn passes(label: &[u8], below: &[u8]) -> Option<u16>
     requires { length below.now ≤ most_bytes }
     ensures { result ≡ Targets·passes label.now (lines below.now) }
 {
-    let mut rest = below;
     let mut n = 0;
-    while 0 < rest.len() {
-        let line = text_fields::part_before(rest, LINE_FEED);
-        if is_at(line, label) {
-            return Target::Passes(n);
+    for line in lines_of(below) {
+        if is_at(line.bytes, label) {
+            return Some(n);
         }
-        if is_row(line) {
+        if is_row(line.bytes) {
             n += 1;
         }
-        let next = text_fields::part_after(rest, LINE_FEED);
-        rest = next;
     }
-    Target::Missing
+    None
 }

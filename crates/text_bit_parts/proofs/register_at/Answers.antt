@@ -11,11 +11,18 @@ use Rattle.text_bit_parts.proofs.register_at.Goals as goal
 pub overflow_add-mark : goal.overflow_add-mark
 overflow_add-mark c = omega (arith, present c.args.s.now c.skip_spaces-mark.result angle_open (sym c.byte.ensures ∙ c.if-byte-eq60.true) (omega arith))
 
-pub returns-then-byte-eq60 : goal.returns-then-byte-eq60
+pub returns-in_err-span : goal.returns-in_err-span
+unfolding register_at part_of
+returns-in_err-span c = let t = at_mark c.args.s.now c.args.end c.skip_spaces-mark.result c.byte.result angle_open c.skip_spaces-mark.ensures c.byte.ensures c.if-byte-eq60.true in
+    c.from_residual.ensures
+    ∙ ap (part_of c.args.register c.args.width) (sym c.in_err-span.was ∙ c.span_at.ensures ∙ ap (λ (k : ℕ). span_at c.args.s.now (k + 1)) c.skip_spaces-mark.ensures)
+    ∙ sym (rw (t, register_at))
+
+pub returns-in_ok-span : goal.returns-in_ok-span
 unfolding register_at
-returns-then-byte-eq60 c = let t = at_mark c.args.s.now c.args.end c.skip_spaces-mark.result c.byte.result angle_open c.skip_spaces-mark.ensures c.byte.ensures c.if-byte-eq60.true in
+returns-in_ok-span c = let t = at_mark c.args.s.now c.args.end c.skip_spaces-mark.result c.byte.result angle_open c.skip_spaces-mark.ensures c.byte.ensures c.if-byte-eq60.true in
     c.part_of.ensures
-    ∙ ap (part_of c.args.register c.args.width) (c.span_at.ensures ∙ ap (λ (k : ℕ). span_at c.args.s.now (k + 1)) c.skip_spaces-mark.ensures)
+    ∙ ap (part_of c.args.register c.args.width) (sym c.in_ok-span.was ∙ c.span_at.ensures ∙ ap (λ (k : ℕ). span_at c.args.s.now (k + 1)) c.skip_spaces-mark.ensures)
     ∙ sym (rw (t, register_at))
 
 pub returns-else-byte-eq60 : goal.returns-else-byte-eq60

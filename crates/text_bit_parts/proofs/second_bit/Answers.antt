@@ -12,14 +12,10 @@ overflow_add-result c = omega (arith, present c.args.s.now c.skip_spaces-end.res
 
 pub returns-then-byte-eq62 : goal.returns-then-byte-eq62
 unfolding second_bit
-returns-then-byte-eq62 c = let t = at_mark c.args.s.now c.in-Plain.place c.skip_spaces-end.result c.byte.result angle_close c.skip_spaces-end.ensures c.byte.ensures c.if-byte-eq62.true in
-    rw (c.in-Plain.is, c.skip_spaces-end.ensures, t, second_bit)
+returns-then-byte-eq62 c = let t = at_mark c.args.s.now c.args.last.place c.skip_spaces-end.result c.byte.result angle_close c.skip_spaces-end.ensures c.byte.ensures c.if-byte-eq62.true in
+    rw (c.skip_spaces-end.ensures, t, second_bit)
 
 pub returns-else-byte-eq62 : goal.returns-else-byte-eq62
 unfolding second_bit
-returns-else-byte-eq62 c = let t = off_mark c.args.s.now c.in-Plain.place c.skip_spaces-end.result c.byte.result angle_close c.skip_spaces-end.ensures c.byte.ensures c.if-byte-eq62.false in
-    rw (c.in-Plain.is, t, second_bit)
-
-pub returns-in-Unread : goal.returns-in-Unread
-unfolding second_bit
-returns-in-Unread c = rw c.in-Unread.is
+returns-else-byte-eq62 c = let t = off_mark c.args.s.now c.args.last.place c.skip_spaces-end.result c.byte.result angle_close c.skip_spaces-end.ensures c.byte.ensures c.if-byte-eq62.false in
+    rw (t, second_bit)

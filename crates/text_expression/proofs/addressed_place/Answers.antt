@@ -7,7 +7,7 @@ use Rattle.text_expression.proofs.Destinations.{as_found, addressed, unaddressed
 use Rattle.text_expression.proofs.addressed_place.Goals as goal
 
 pub overflow_add-close : goal.overflow_add-close
-overflow_add-close c = omega (arith, c.skip_spaces-close.ensures, within Space c.args.s.now c.args.end.place c.requires.fact_2)
+overflow_add-close c = omega (arith, c.skip_spaces-close.ensures, within Space c.args.s.now c.args.end.place c.requires.within_field)
 
 pub returns-then-byte-close : goal.returns-then-byte-close
 returns-then-byte-close c = addressed c.args.s.now c.args.end c.args.from

@@ -6,22 +6,22 @@ use Rattle.text_grammar.specs.Met.{calls}
 use Rattle.text_grammar.proofs.+grammar.Given as goal
 
 abbrev pub decreases-read_enclosed : goal.decreases-read_enclosed
-decreases-read_enclosed l = calls l.s.now l.c.place 9
+decreases-read_enclosed l = calls l.field.now.bytes.now l.c.place 9
 
 abbrev pub decreases-read_level : goal.decreases-read_level
-decreases-read_level l = calls l.s.now l.c.place (9 - l.strength)
+decreases-read_level l = calls l.field.now.bytes.now l.c.place (9 - l.strength)
 
 abbrev pub decreases-read_more : goal.decreases-read_more
-decreases-read_more l = calls l.s.now l.left.place 9
+decreases-read_more l = calls l.field.now.bytes.now l.left.end.place 9
 
 abbrev pub decreases-read_negated : goal.decreases-read_negated
-decreases-read_negated l = calls l.s.now l.c.place 3
+decreases-read_negated l = calls l.field.now.bytes.now l.c.place 3
 
 abbrev pub decreases-read_operand : goal.decreases-read_operand
-decreases-read_operand l = calls l.s.now l.c.place 1
+decreases-read_operand l = calls l.field.now.bytes.now l.c.place 1
 
 abbrev pub decreases-read_operation : goal.decreases-read_operation
-decreases-read_operation l = calls l.s.now l.left.place 8
+decreases-read_operation l = calls l.field.now.bytes.now l.left.end.place 8
 
 abbrev pub decreases-read_worded : goal.decreases-read_worded
-decreases-read_worded l = calls l.s.now l.c.place 0
+decreases-read_worded l = calls l.field.now.bytes.now l.c.place 0

@@ -3,4 +3,4 @@ use Rattle.text_code.proofs.Making.{under_not}
 use Rattle.text_code.proofs.compounds.complemented_part.Goals as goal
 
 pub returns : goal.returns
-returns c = rw (c.one_more.ensures, c.emit.ensures, c.width_in-whole.ensures) (under_not c.args.c c.args.width c.args.code.now)
+returns c = rw (c.with_word.ensures, c.emit.ensures, c.width_in-whole.ensures) (under_not c.args.operand.end c.args.operand.width c.args.code.now)

@@ -12,17 +12,20 @@ use Rattle.text_declaration.proofs.Fields.{stands}
 use Rattle.text_declaration.proofs.Declarations.{plain_as, plain_refused, unbegun_is, reg_fields, reg_malformed}
 use Rattle.text_declaration.proofs.lines.reg_line.Goals as goal
 
-pub add_register-requires : goal.add_register-requires
-add_register-requires c = let t = rw c.has_fields.ensures at c.if-has_fields-q.true in
-    let fields = and_left (has_fields 3 c.args.line.now) (eqb (c.args.q.labels.count + c.args.q.rows) 0) t in
-    record { fact_1 = c.requires.fact_1; fact_2 = (stands c.args.text.now c.args.line.now reg_word 3 c.args.place (omega arith) fields c.requires.fact_4 c.requires.fact_2 _ c.field_of.ensures c.requires.fact_3).0; fact_3 = (stands c.args.text.now c.args.line.now reg_word 3 c.args.place (omega arith) fields c.requires.fact_4 c.requires.fact_2 _ c.field_of.ensures c.requires.fact_3).1 }
+pub returns-then-not-has_fields-q : goal.returns-then-not-has_fields-q
+returns-then-not-has_fields-q c = let malformed = rw c.has_fields.ensures at c.if-not-has_fields-q.true in
+    plain_refused c.args.text.now (λ p. reg_line p c.args.line.now) c.args.q Line
+    (λ rs counted. reg_malformed _ c.args.line.now (ap (λ (b : Bool). has_fields 3 c.args.line.now && b) (unbegun_is c.args.text.now c.args.q rs counted) ∙ malformed))
 
-pub returns-then-has_fields-q : goal.returns-then-has_fields-q
-returns-then-has_fields-q c = let fields = rw c.has_fields.ensures at c.if-has_fields-q.true in
-    plain_as c.args.text.now (λ p. reg_line p c.args.line.now) (λ p. add_register p _ _) c.args.q c.add_register.result
-    (λ rs counted. reg_fields _ c.args.line.now (ap (λ (b : Bool). has_fields 3 c.args.line.now && b) (unbegun_is c.args.text.now c.args.q rs counted) ∙ fields) ∙ rw (c.field_of.ensures, c.field_of-then-has_fields-q.ensures)) c.add_register.ensures
+pub add_register-requires-clause-stands : goal.add_register-requires-clause-stands
+add_register-requires-clause-stands c = let fields = and_left (has_fields 3 c.args.line.now) (eqb (c.args.q.labels.count + c.args.q.rows) 0) (rw c.has_fields.ensures at c.if-not-has_fields-q.false) in
+    (stands c.args.text.now c.args.line.now reg_word 3 c.args.place (omega arith) fields c.requires.is_reg c.requires.stands _ c.field_of-name.ensures c.requires.fits).0
+
+pub add_register-requires-clause-fits : goal.add_register-requires-clause-fits
+add_register-requires-clause-fits c = let fields = and_left (has_fields 3 c.args.line.now) (eqb (c.args.q.labels.count + c.args.q.rows) 0) (rw c.has_fields.ensures at c.if-not-has_fields-q.false) in
+    (stands c.args.text.now c.args.line.now reg_word 3 c.args.place (omega arith) fields c.requires.is_reg c.requires.stands _ c.field_of-name.ensures c.requires.fits).1
 
 pub returns : goal.returns
-returns c = let malformed = rw c.has_fields.ensures at c.if-has_fields-q.false in
-    plain_refused c.args.text.now (λ p. reg_line p c.args.line.now) c.args.q Line c.refused.result c.refused.ensures
-    (λ rs counted. reg_malformed _ c.args.line.now (ap (λ (b : Bool). has_fields 3 c.args.line.now && b) (unbegun_is c.args.text.now c.args.q rs counted) ∙ malformed)) c.requires.fact_1
+returns c = let fields = rw c.has_fields.ensures at c.if-not-has_fields-q.false in
+    plain_as c.args.text.now (λ p. reg_line p c.args.line.now) (λ p. add_register p _ _) c.args.q c.add_register.result
+    (λ rs counted. reg_fields _ c.args.line.now (ap (λ (b : Bool). has_fields 3 c.args.line.now && b) (unbegun_is c.args.text.now c.args.q rs counted) ∙ fields) ∙ rw (c.field_of-name.ensures, c.field_of.ensures)) c.add_register.ensures

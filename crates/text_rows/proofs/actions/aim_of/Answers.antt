@@ -19,9 +19,6 @@ pub overflow_add-result : goal.overflow_add-result
 overflow_add-result c = let h = rw c.in-Bits.is at c.requires in
     search (rules, h)
 
-pub enum_told-1 : goal.enum_told-1
-enum_told-1 c = search rules
-
 pub returns-in-Register : goal.returns-in-Register
 returns-in-Register c = rw c.in-Register.is
 
@@ -30,6 +27,3 @@ returns-in-Bits c = rw c.in-Bits.is
 
 pub returns-in-Word : goal.returns-in-Word
 returns-in-Word c = rw c.in-Word.is
-
-pub returns-in-Nowhere : goal.returns-in-Nowhere
-returns-in-Nowhere c = rw c.in-Nowhere.is

@@ -10,13 +10,10 @@ use lib.ListN.{length, get_or, set, length-set, get_or-eq_default}
 use lib.Seq.{ext_get_or, get_or-set_same, get_or-set_other}
 use borrow.Author.Tests.{ltb-true, ltb-false, eqb-true, eqb-false}
 use Rattle.word.specs.Word.{widest}
-use Rattle.state.specs.Refusals.{or_else}
-use Rattle.state.specs.Checks.{check_state}
-use Rattle.state.specs.declared.Verdict.{Verdict}
 use Rattle.text_limits.specs.Limits.{most_registers}
 use Rattle.text_names.specs.declared.Dictionary.{Dictionary}
 use Rattle.laws.proofs.Tests.{by_test}
-use Rattle.evaluator.specs.Padded.{width_at, widths_from, padded, check_padded}
+use Rattle.evaluator.specs.Padded.{width_at, widths_from, padded}
 
 -- n widths from place k on: their number, and each of them
 from_length : (d : Dictionary) (n k : ℕ) → length (widths_from d k n) ≡ n
@@ -71,9 +68,3 @@ filled_next d i w x f h e =
 pub filled_end : (d : Dictionary) (i : ℕ) (w : List ℕ) → Filled d i w → most_registers ≤ i → w ≡ padded d
 filled_end d i w f h =
     ext_get_or 0 w (padded d) (f.size ∙ sym (padded_length d)) (λ k q. f.are k (omega (arith, f.size)) ∙ sym (padded_at d k (omega (arith, f.size))))
-
--- the checks by the widths that were found, then another
-pub padded_check : (d : Dictionary) {w : List ℕ} (values memory : List ℕ) (budget : ℕ) {found v : Verdict} (later : Verdict)
-    → w ≡ padded d → found ≡ check_state w values memory budget → found ≡ v → or_else (check_padded d values memory budget) later ≡ or_else v later
-padded_check d values memory budget later e f g =
-    ap (λ (x : Verdict). or_else x later) (ap (λ (l : List ℕ). check_state l values memory budget) (sym e) ∙ sym f ∙ g)

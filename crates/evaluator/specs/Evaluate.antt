@@ -1,22 +1,24 @@
 -- The evaluator's answer for every text, memory, register set, budget and row list: refusals 1 to 8, then 11 to 15, then the run.
 -- Assumes nothing.
-use Rattle.std.specs.Prelude.{true, false, List, map, ◌++◌, ℕ, length, drop}
-use Rattle.state.specs.Refusals.{place_of, reason_of, reason_with, reason_number, or_else}
+use Rattle.std.specs.Prelude.{true, false, List, map, ◌++◌, ℕ, length, drop, Ok, Err}
+use Rattle.std.specs.declared.result.Result.{Result}
+use Rattle.state.specs.Refusals.{place_of, reason_of, reason_with, reason_number, Verdict, or_else}
 use Rattle.state.specs.Refusals as state
 use Rattle.state.specs.Checks.{check_state, check_row_list}
 use Rattle.state.specs.declared.Reason.{Reason}
-use Rattle.state.specs.declared.Verdict.{Verdict}
-use Rattle.state.specs.declared.Verdict.TheVariants.{Fit, Unfit}
+use Rattle.state.specs.declared.Refusal as declared
 use Rattle.devices.specs.Session.{Session, place_left, Exchange, exchanged, untouched}
 use Rattle.characters.specs.Named.{Named}
 use Rattle.text_declaration.specs.Rows.{Description}
 use Rattle.text_declaration.specs.Faults.{number_of}
+use Rattle.text_declaration.specs.declared.faults.Fault.{Fault}
 use Rattle.text_description.specs.Description as text
 use Rattle.text_description.specs.Description.{accepted, turned_down, read_text}
 use Rattle.evaluator.specs.declared.Answer.{Answer}
 use Rattle.evaluator.specs.declared.DeviceAnswer.{DeviceAnswer}
-use Rattle.evaluator.specs.declared.Outcome.{Outcome}
-use Rattle.evaluator.specs.declared.Outcome.TheVariants.{Ran, Unread, Refused}
+use Rattle.evaluator.specs.declared.Ended as answer
+use Rattle.evaluator.specs.declared.Refusal.{Refusal}
+use Rattle.evaluator.specs.declared.Refusal.TheVariants.{Text, State as Unfit}
 use Rattle.runs.specs.Run.{Ended}
 use Rattle.rows_value.specs.Value.{State}
 use Rattle.rows_cycles.specs.Cycle.{Cycle}
@@ -43,17 +45,39 @@ abbrev pub refused : ℕ → ℕ → List ℕ → List ℕ → List ℕ → Repo
 refused number place registers memory list =
     record { number = number; place = place; steps = 0; reason = 0; listed = 0; registers = registers; memory = memory; list = list }
 
+-- what came of a call: a run, a text that is turned down with its line, or a state that is
+abbrev pub Outcome : Type 0
+Outcome = Result answer.Ended Refusal
+
+abbrev pub ran : Reason → ℕ → ℕ → Outcome
+ran why steps listed = Ok (record { reason = why; steps = steps; listed = listed })
+
+abbrev pub unread : Fault → ℕ → Outcome
+unread f n = Err (Text (record { fault = f; line = n }))
+
+abbrev pub unfit : declared.Refusal → Outcome
+unfit why = Err (Unfit why)
+
 -- the numbers and values of each case of the evaluator's answer, with what it leaves
 abbrev pub outcome_of : Outcome → List ℕ → List ℕ → List ℕ → Report
-outcome_of (Ran why steps listed) registers memory list =
-    record { number = 0; place = 0; steps = steps; reason = reason_number why; listed = listed; registers = registers; memory = memory; list = list }
-outcome_of (Unread f n) registers memory list = refused (number_of f) n registers memory list
-outcome_of (Refused why) registers memory list = refused (state.number_of why) (place_of why) registers memory list
+outcome_of (Ok end) registers memory list =
+    record {
+      number = 0;
+      place = 0;
+      steps = end.steps;
+      reason = reason_number end.reason;
+      listed = end.listed;
+      registers = registers;
+      memory = memory;
+      list = list;
+    }
+outcome_of (Err (Text why)) registers memory list = refused (number_of why.fault) why.line registers memory list
+outcome_of (Err (Unfit why)) registers memory list = refused (state.number_of why) (place_of why) registers memory list
 
 -- what a run comes to that ended after so many steps with a last cycle: "The evaluator lists the rows that acted in its last cycle, rising; later places stay"
 abbrev pub ended : Reason → ℕ → Cycle → List ℕ → Report
 ended why steps last list =
-    outcome_of (Ran why steps (length last.acted)) last.state.registers last.state.memory
+    outcome_of (ran why steps (length last.acted)) last.state.registers last.state.memory
     (last.acted ++ drop (length last.acted) list)
 
 -- by what RUN is in a state
@@ -70,11 +94,11 @@ check d registers memory budget list = or_else (check_state (widths_of d) regist
 
 -- "Tried after the text"
 unfoldable pub evaluate_of : text.Acceptance → List ℕ → List ℕ → ℕ → List ℕ → Report
-evaluate_of (turned_down f n) registers memory budget list = outcome_of (Unread f n) registers memory list
+evaluate_of (turned_down f n) registers memory budget list = outcome_of (unread f n) registers memory list
 evaluate_of (accepted d) registers memory budget list =
     elim (check d registers memory budget list) [
-      | Fit ↦ finished (running d) (run d budget (record { registers = registers; memory = memory })) list
-      | Unfit why ↦ outcome_of (Refused why) registers memory list
+      | Ok fit ↦ finished (running d) (run d budget (record { registers = registers; memory = memory })) list
+      | Err why ↦ outcome_of (unfit why) registers memory list
     ]
 
 unfoldable pub evaluate : List ℕ → List ℕ → List ℕ → ℕ → List ℕ → Report
@@ -118,11 +142,11 @@ run_of d s budget list input output =
     ]
 
 unfoldable pub evaluate_devices_of : text.Acceptance → List ℕ → List ℕ → ℕ → List ℕ → List ℕ → List ℕ → DeviceReport
-evaluate_devices_of (turned_down f n) registers memory budget list input output = without (outcome_of (Unread f n) registers memory list) output
+evaluate_devices_of (turned_down f n) registers memory budget list input output = without (outcome_of (unread f n) registers memory list) output
 evaluate_devices_of (accepted d) registers memory budget list input output =
     elim (check d registers memory budget list) [
-      | Fit ↦ run_of d (record { registers = registers; memory = memory }) budget list input output
-      | Unfit why ↦ without (outcome_of (Refused why) registers memory list) output
+      | Ok fit ↦ run_of d (record { registers = registers; memory = memory }) budget list input output
+      | Err why ↦ without (outcome_of (unfit why) registers memory list) output
     ]
 
 unfoldable pub evaluate_devices : List ℕ → List ℕ → List ℕ → ℕ → List ℕ → List ℕ → List ℕ → DeviceReport

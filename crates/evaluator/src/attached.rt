@@ -1,40 +1,31 @@
 // Where the devices' registers stand in a description.
-ghost use Rattle.std.specs.Prelude.{◌≡◌, ◌&&◌, eqb, ltb, get_or};
-ghost use Rattle.text_names.specs.Dictionaries.{entries};
-ghost use Rattle.evaluator.specs.Lent.{Attaches};
+ghost use Rattle.std.specs.Prelude.{◌≡◌, eqb};
+ghost use Rattle.text_names.specs.Dictionaries.{entries, number_at};
+ghost use Rattle.evaluator.specs.Lent.{attached};
 
 use devices::registers;
 use devices::registers::DEVICE_REGISTERS;
 use text_names::Dictionary;
 
-// Whether a register stands at a place, with that width.
-fn has_width(d: Dictionary, place: usize, width: u16) -> bool
-    ensures { result ≡ ltb place d.count && eqb (get_or d.numbers place 0) width }
+// Whether the register at a place has that width.
+fn has_width(d: Dictionary, place: usize, width: u64) -> bool
+    ensures { result ≡ eqb (number_at d place) width }
 {
-    (place < d.count) & (text_names::number_of(d, place) == width)
+    u64::from(text_names::number_of(d, place)) == width
 }
 
-// The five places, and whether all five registers are there with their widths.
-#[derive(Clone, Copy)]
-pub struct Places {
-    pub all: bool,
-    pub places: [usize; DEVICE_REGISTERS],
-}
-
-// The places of the devices' registers among those of a text.
-pub fn attach(text: &[u8], d: Dictionary) -> Places
-    ensures { Attaches (entries text.now d) result }
+// The places of the devices' registers among those of a text, if all of them are there with their widths.
+pub fn attach(text: &[u8], d: Dictionary) -> Option<[usize; DEVICE_REGISTERS]>
+    ensures { result ≡ attached (entries text.now d) }
 {
     let mut places = [0usize; DEVICE_REGISTERS];
-    let mut all = true;
-    let mut k = 0;
-    while k < DEVICE_REGISTERS {
+    for (k, place) in places.iter_mut().enumerate() {
         let register = registers::register_at(k);
-        let letters = register.letters;
-        let place = text_names::place_of(text, d, characters::part(&letters, 0, register.size));
-        places[k] = place;
-        all = all & has_width(d, place, register.width);
-        k += 1;
+        let found = text_names::place_of(text, d, register.name)?;
+        if !has_width(d, found, register.width) {
+            return None;
+        }
+        *place = found;
     }
-    Places { all, places }
+    Some(places)
 }

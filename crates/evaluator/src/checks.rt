@@ -6,7 +6,7 @@ ghost use Rattle.state.specs.Checks.{check_row_list};
 ghost use Rattle.evaluator.specs.Padded.{width_at, padded, check_padded};
 
 use rows_store::Registers;
-use state::Verdict;
+use state::Refusal;
 use text_limits::MOST_REGISTERS;
 use text_names::Dictionary;
 
@@ -25,24 +25,24 @@ fn width_at(d: Dictionary, place: usize) -> u64
 fn widths_of(d: Dictionary) -> [u64; MOST_REGISTERS]
     ensures { result ≡ padded d }
 {
-    let mut w = [0u64; MOST_REGISTERS];
-    let mut i = 0;
-    while i < MOST_REGISTERS {
-        w[i] = width_at(d, i);
-        i += 1;
+    let mut widths = [0u64; MOST_REGISTERS];
+    for (place, width) in widths.iter_mut().enumerate() {
+        *width = width_at(d, place);
     }
-    w
+    widths
 }
 
 // 11 to 14, then 15.
-pub fn check(memory: &[u16], d: Dictionary, r: Registers, budget: u64, places: usize) -> Verdict
+pub fn check(
+    memory: &[u16],
+    d: Dictionary,
+    r: Registers,
+    budget: u64,
+    places: usize,
+) -> Result<(), Refusal>
     requires { (k : ℕ) → width_at d k ≤ widest }
     ensures { result ≡ or_else (check_padded d r.values memory.now budget) (check_row_list places) }
 {
-    let widths = widths_of(d);
-    let values = r.values;
-    match state::check_state(memory, &widths, &values, budget) {
-        Verdict::Fit => state::check_row_list(places),
-        Verdict::Unfit(why) => Verdict::Unfit(why),
-    }
+    state::check_state(memory, &widths_of(d), &r.values, budget)?;
+    state::check_row_list(places)
 }

@@ -6,14 +6,10 @@ use text_limits::MOST_ROWS;
 
 // Puts the first n entries of a list at the front of a caller's.
 pub fn put_rows(rows: &mut [u8], list: &[u8; MOST_ROWS], n: usize)
-    requires fact_1 { n ≤ most_rows }
-    requires fact_2 { n ≤ length rows.old }
-    requires fact_3 { length list.now ≡ most_rows }
+    requires listed { n ≤ most_rows }
+    requires roomy { n ≤ length rows.old }
+    requires whole { length list.now ≡ most_rows }
     ensures { rows.new ≡ take n list.now ++ drop n rows.old }
 {
-    let mut i = 0;
-    while i < n {
-        rows[i] = list[i];
-        i += 1;
-    }
+    rows[..n].copy_from_slice(&list[..n]);
 }

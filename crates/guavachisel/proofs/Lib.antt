@@ -1,4 +1,1 @@
-mod Answers
-mod Evaluations
 mod Rooms
-mod DeviceAnswers

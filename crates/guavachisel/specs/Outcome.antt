@@ -27,13 +27,7 @@ abbrev pub answered : ℕ → Outcome
 answered answer =
     record { refusal = 0; place = 0; steps = 0; reason = 0; rows = 0; read = 0; printed = 0; answer = answer; sum = 0 }
 
--- the places of the bytes read and the bytes printed, and an outcome that speaks of them, too
-abbrev pub read_place : ℕ
-read_place = 5
-
-abbrev pub printed_place : ℕ
-printed_place = 6
-
+-- an outcome that speaks of the bytes read and the bytes printed, too
 abbrev pub exchanging : Outcome → ℕ → ℕ → Outcome
 exchanging o read printed =
     record {

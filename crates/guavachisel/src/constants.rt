@@ -19,23 +19,19 @@ fn all_places(width: u16) -> u64
 }
 
 // What was read, in its places.
-fn places(c: Constant) -> [u64; CONSTANT_PLACES]
+fn places(c: Option<Constant>) -> [u64; CONSTANT_PLACES]
     requires { Narrow c }
     ensures { result ≡ places_of c }
 {
     match c {
-        Constant::Found {
-            value,
-            width,
-            place,
-        } => [
+        Some(read) => [
             1,
-            value as u64,
-            all_places(width),
-            width as u64,
-            place as u64,
+            read.value as u64,
+            all_places(read.width),
+            read.width as u64,
+            read.place as u64,
         ],
-        Constant::Missing => [0; CONSTANT_PLACES],
+        None => [0; CONSTANT_PLACES],
     }
 }
 

@@ -4,7 +4,6 @@ ghost use Rattle.guavachisel.specs.DeviceEmulation.{EmulatedDevices};
 use crate::outcome;
 use crate::outcome::OUTCOME_PLACES;
 use devices::registers::{DEVICE_REGISTERS, devices_of};
-use emulator::Answer;
 use machine_state::registers::MACHINE_REGISTERS;
 
 // Runs the emulator on a caller's memory, registers, devices, input and output.
@@ -29,20 +28,13 @@ pub extern "C" fn guavachisel_emulate_devices(
         input,
         output,
     );
-    let left = answer.devices;
-    *five = devices::registers::values_of(left);
-    let end = answer.answer;
-    match end {
-        Answer::Ran(m, why, steps) => {
-            *registers = machine_state::registers::values_of(m);
-            *outcome = outcome::exchanging(
-                outcome::ran(steps, why, 0),
-                answer.read,
-                answer.printed,
-            );
+    *five = devices::registers::values_of(answer.devices);
+    let said = match answer.answer {
+        Ok(end) => {
+            *registers = machine_state::registers::values_of(end.machine);
+            outcome::ran(end.steps, end.reason, 0)
         }
-        Answer::Refused(why) => {
-            *outcome = outcome::exchanging(outcome::refused(why), answer.read, answer.printed);
-        }
-    }
+        Err(why) => outcome::refused(why),
+    };
+    *outcome = outcome::exchanging(said, answer.read, answer.printed).into();
 }

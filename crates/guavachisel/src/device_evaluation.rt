@@ -25,10 +25,7 @@ pub extern "C" fn guavachisel_evaluate_devices(
     let came = *registers;
     let start = Registers { values: came };
     let lent = evaluator::evaluate_devices(text, memory, start, budget, rows, input, output);
-    let answer = lent.answer;
-    let after = answer.registers;
-    let values = after.values;
+    let values = lent.answer.registers.values;
     *registers = values;
-    let end = answer.outcome;
-    *outcome = outcome::exchanging(outcome_of(end), lent.read, lent.printed);
+    *outcome = outcome::exchanging(outcome_of(lent.answer.outcome), lent.read, lent.printed).into();
 }

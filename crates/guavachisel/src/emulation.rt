@@ -3,7 +3,6 @@ ghost use Rattle.guavachisel.specs.Emulation.{Emulated};
 
 use crate::outcome;
 use crate::outcome::OUTCOME_PLACES;
-use emulator::Answer;
 use machine_state::registers::MACHINE_REGISTERS;
 
 // Runs the emulator on a caller's memory and registers.
@@ -21,12 +20,10 @@ pub extern "C" fn guavachisel_emulate(
         machine_state::registers::machine_of(*registers),
         budget,
     ) {
-        Answer::Ran(m, why, steps) => {
-            *registers = machine_state::registers::values_of(m);
-            *outcome = outcome::ran(steps, why, 0);
+        Ok(end) => {
+            *registers = machine_state::registers::values_of(end.machine);
+            *outcome = outcome::ran(end.steps, end.reason, 0).into();
         }
-        Answer::Refused(why) => {
-            *outcome = outcome::refused(why);
-        }
+        Err(why) => *outcome = outcome::refused(why).into(),
     }
 }

@@ -1,23 +1,22 @@
 // The evaluator for C callers: guavachisel_evaluate of include/guavachisel.h.
 ghost use Rattle.std.specs.Prelude.{◌≡◌, List, ℕ};
 ghost use Rattle.evaluator.specs.Evaluate.{outcome_of as reported};
-ghost use Rattle.guavachisel.specs.Outcome.{places};
 ghost use Rattle.guavachisel.specs.Evaluation.{outcome_of, Evaluated};
 
 use crate::outcome;
-use crate::outcome::OUTCOME_PLACES;
-use evaluator::Outcome;
+use crate::outcome::{OUTCOME_PLACES, Outcome};
+use evaluator::{Ended, Refusal};
 use rows_store::Registers;
 use text_limits::MOST_REGISTERS;
 
 // What came of a call, as a C caller gets it.
-pub fn outcome_of(end: Outcome) -> [u64; OUTCOME_PLACES]
-    ensures { (registers memory list : List ℕ) → result ≡ places (outcome_of (reported end registers memory list)) }
+pub fn outcome_of(end: Result<Ended, Refusal>) -> Outcome
+    ensures { (registers memory list : List ℕ) → result ≡ outcome_of (reported end registers memory list) }
 {
     match end {
-        Outcome::Ran(why, steps, listed) => outcome::ran(steps, why, listed as u64),
-        Outcome::Unread(f, line) => outcome::unread(f, line),
-        Outcome::Refused(why) => outcome::refused(why),
+        Ok(end) => outcome::ran(end.steps, end.reason, end.listed as u64),
+        Err(Refusal::Text(why)) => outcome::unread(why.fault, why.line),
+        Err(Refusal::State(why)) => outcome::refused(why),
     }
 }
 
@@ -37,9 +36,7 @@ pub extern "C" fn guavachisel_evaluate(
     let came = *registers;
     let start = Registers { values: came };
     let answer = evaluator::evaluate(text, memory, start, budget, rows);
-    let after = answer.registers;
-    let values = after.values;
+    let values = answer.registers.values;
     *registers = values;
-    let end = answer.outcome;
-    *outcome = outcome_of(end);
+    *outcome = outcome_of(answer.outcome).into();
 }

@@ -1,4 +1,4 @@
-// The numbers by which C callers know reasons, refusals and faults.
+// The numbers by which C callers know reasons, refusals and faults. No From: an impl for u64 would stand beside the types, in crates that know nothing of C.
 ghost use Rattle.std.specs.Prelude.{◌≡◌};
 ghost use Rattle.state.specs.Refusals.{reason_number, number_of, place_of};
 ghost use Rattle.text_declaration.specs.Faults.{number_of as faultNumber};

@@ -1,8 +1,8 @@
 // What every entry reports: guavachisel_outcome of include/guavachisel.h.
-ghost use Rattle.std.specs.Prelude.{◌≡◌, set};
+ghost use Rattle.std.specs.Prelude.{◌≡◌};
 ghost use Rattle.state.specs.Refusals.{reason_number, number_of, place_of};
 ghost use Rattle.text_declaration.specs.Faults.{number_of as faultNumber};
-ghost use Rattle.guavachisel.specs.Outcome.{read_place, printed_place, places as places_of, ran as ranOutcome, refused as refusedOutcome, answered as answeredOutcome};
+ghost use Rattle.guavachisel.specs.Outcome.{places, ran as ranOutcome, refused as refusedOutcome, answered as answeredOutcome, exchanging as exchangingOutcome};
 
 use crate::numbers;
 use state::{Reason, Refusal};
@@ -10,11 +10,6 @@ use text_declaration::faults::Fault;
 
 // The numbers that a caller's outcome has places for.
 pub const OUTCOME_PLACES: usize = 9;
-
-// The places of the bytes read and the bytes printed.
-const READ_PLACE: usize = 5;
-
-const PRINTED_PLACE: usize = 6;
 
 // An outcome, as the header names its places.
 #[derive(Clone, Copy)]
@@ -44,60 +39,64 @@ const SILENT: Outcome = Outcome {
 };
 
 // An outcome in its places.
-fn places(o: Outcome) -> [u64; OUTCOME_PLACES]
-    ensures { result ≡ places_of o }
-{
-    [
-        o.refusal, o.place, o.steps, o.reason, o.rows, o.read, o.printed, o.answer, o.sum,
-    ]
+impl From<Outcome> for [u64; OUTCOME_PLACES] {
+    ghost from_gives = { λ o numbers. numbers ≡ places o };
+
+    fn from(o: Outcome) -> [u64; OUTCOME_PLACES] {
+        [
+            o.refusal, o.place, o.steps, o.reason, o.rows, o.read, o.printed, o.answer, o.sum,
+        ]
+    }
 }
 
 // The outcome of a run.
-pub fn ran(steps: u64, reason: Reason, rows: u64) -> [u64; OUTCOME_PLACES]
-    ensures { result ≡ places_of (ranOutcome steps (reason_number reason) rows) }
+pub fn ran(steps: u64, reason: Reason, rows: u64) -> Outcome
+    ensures { result ≡ ranOutcome steps (reason_number reason) rows }
 {
-    let mut o = SILENT;
-    o.steps = steps;
-    o.reason = numbers::reason_number(reason);
-    o.rows = rows;
-    places(o)
+    Outcome {
+        steps,
+        reason: numbers::reason_number(reason),
+        rows,
+        ..SILENT
+    }
 }
 
 // The outcome of a state that is turned down.
-pub fn refused(why: Refusal) -> [u64; OUTCOME_PLACES]
-    ensures { result ≡ places_of (refusedOutcome (number_of why) (place_of why)) }
+pub fn refused(why: Refusal) -> Outcome
+    ensures { result ≡ refusedOutcome (number_of why) (place_of why) }
 {
-    let mut o = SILENT;
-    o.refusal = numbers::refusal_number(why);
-    o.place = numbers::refusal_place(why);
-    places(o)
+    Outcome {
+        refusal: numbers::refusal_number(why),
+        place: numbers::refusal_place(why),
+        ..SILENT
+    }
 }
 
 // The outcome of a text that is turned down.
-pub fn unread(f: Fault, line: usize) -> [u64; OUTCOME_PLACES]
-    ensures { result ≡ places_of (refusedOutcome (faultNumber f) line) }
+pub fn unread(f: Fault, line: usize) -> Outcome
+    ensures { result ≡ refusedOutcome (faultNumber f) line }
 {
-    let mut o = SILENT;
-    o.refusal = numbers::fault_number(f);
-    o.place = line as u64;
-    places(o)
+    Outcome {
+        refusal: numbers::fault_number(f),
+        place: line as u64,
+        ..SILENT
+    }
 }
 
 // The outcome of a question, by its answer; 0 for one that has none, as for a text that is accepted.
-pub fn answered(answer: u64) -> [u64; OUTCOME_PLACES]
-    ensures { result ≡ places_of (answeredOutcome answer) }
+pub fn answered(answer: u64) -> Outcome
+    ensures { result ≡ answeredOutcome answer }
 {
-    let mut o = SILENT;
-    o.answer = answer;
-    places(o)
+    Outcome { answer, ..SILENT }
 }
 
 // The outcome, with the bytes read and the bytes printed.
-pub fn exchanging(o: [u64; OUTCOME_PLACES], read: usize, printed: usize) -> [u64; OUTCOME_PLACES]
-    ensures { result ≡ set (set o read_place read) printed_place printed }
+pub fn exchanging(o: Outcome, read: usize, printed: usize) -> Outcome
+    ensures { result ≡ exchangingOutcome o read printed }
 {
-    let mut r = o;
-    r[READ_PLACE] = read as u64;
-    r[PRINTED_PLACE] = printed as u64;
-    r
+    Outcome {
+        read: read as u64,
+        printed: printed as u64,
+        ..o
+    }
 }

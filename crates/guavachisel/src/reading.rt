@@ -8,7 +8,6 @@ use crate::outcome;
 use crate::outcome::OUTCOME_PLACES;
 use text_code::CODE_PLACES;
 use text_code::row_table::TABLE_CELLS;
-use text_description::reader::Verdict;
 
 // Reads a caller's text.
 #[unsafe(no_mangle)]
@@ -17,14 +16,8 @@ pub extern "C" fn guavachisel_read(text: &[u8], outcome: &mut [u64; OUTCOME_PLAC
 {
     let mut code = [0u16; CODE_PLACES];
     let mut table = [0u16; TABLE_CELLS];
-    let findings = text_description::reader::read(text, &mut code, &mut table);
-    let verdict = findings.verdict;
-    match verdict {
-        Verdict::Accepted => {
-            *outcome = outcome::answered(0);
-        }
-        Verdict::Refused(f, line) => {
-            *outcome = outcome::unread(f, line);
-        }
-    }
+    *outcome = match text_description::reader::read(text, &mut code, &mut table) {
+        Ok(_) => outcome::answered(0).into(),
+        Err(refusal) => outcome::unread(refusal.fault, refusal.line).into(),
+    };
 }

@@ -1,6 +1,6 @@
 // The shipped descriptions for C callers: guavachisel_shipped of include/guavachisel.h.
-ghost use Rattle.std.specs.Prelude.{◌≡◌};
-ghost use Rattle.guavachisel.specs.Shipping.{written, Shipped};
+ghost use Rattle.std.specs.Prelude.{◌≡◌, [], MatchOption};
+ghost use Rattle.guavachisel.specs.Shipping.{shipped_of, written, Shipped};
 
 use crate::outcome;
 use crate::outcome::OUTCOME_PLACES;
@@ -16,7 +16,18 @@ fn write(room: &mut [u8], text: &[u8])
     ensures { room.new ≡ written text.now room.old }
 {
     if text.len() <= room.len() {
-        page::put_text(room, 0, text);
+        room[..text.len()].copy_from_slice(text);
+    }
+}
+
+// The shipped description of a number that has one.
+fn description_of(which: u64) -> Option<&'static [u8]>
+    ensures { MatchOption result (shipped_of which ≡ []) (λ d. d.now ≡ shipped_of which) }
+{
+    match which {
+        PLAIN => Some(shipped_rows::shipped_text(false)),
+        DEVICES => Some(shipped_rows::shipped_text(true)),
+        _ => None,
     }
 }
 
@@ -29,15 +40,11 @@ pub extern "C" fn guavachisel_shipped(
 )
     ensures { Shipped which text.old text.new outcome.new }
 {
-    if which == PLAIN {
-        let description = shipped_rows::shipped_text();
-        write(text, &description);
-        *outcome = outcome::answered(description.len() as u64);
-    } else if which == DEVICES {
-        let twin = shipped_rows::twin::devices_text();
-        write(text, &twin);
-        *outcome = outcome::answered(twin.len() as u64);
-    } else {
-        *outcome = outcome::answered(0);
+    match description_of(which) {
+        Some(description) => {
+            write(text, description);
+            *outcome = outcome::answered(description.len() as u64).into();
+        }
+        None => *outcome = outcome::answered(0).into(),
     }
 }

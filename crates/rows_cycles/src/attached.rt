@@ -1,8 +1,8 @@
 // Where there are devices: their registers, by their places; the start of a cycle, and the print after it.
-ghost use Rattle.std.specs.Prelude.{◌≡◌, true, not, ◌||◌, ◌%◌, ◌≤◌, ◌<◌, ltb, length, get_or};
+ghost use Rattle.std.specs.Prelude.{◌≡◌, true, not, is_some, ◌||◌, ◌%◌, ◌≤◌, ◌<◌, ltb, length, get_or};
 ghost use Rattle.text_limits.specs.Limits.{most_registers};
 ghost use Rattle.devices.specs.Held.{PrintedBy};
-ghost use Rattle.rows_cycles.specs.Stored.{devices_in, with_devices_in, narrowed, marked_by, Begins};
+ghost use Rattle.rows_cycles.specs.Stored.{devices_in, with_devices_in, narrowed, marked_by, places_or, Begins};
 
 use devices::registers::DEVICE_REGISTERS;
 use devices::{Devices, session};
@@ -58,18 +58,17 @@ pub struct Beginning {
 
 // The start of a cycle. Where nothing arrives and no mark stands the registers are as they were.
 pub fn begin_cycle(
-    devices: bool,
-    places: [usize; DEVICE_REGISTERS],
+    devices: Option<[usize; DEVICE_REGISTERS]>,
     r: Registers,
     input: &[u8],
     read: usize,
 ) -> Beginning
     requires { read ≤ length input.now }
-    ensures { Begins devices places r.values input.now read result.registers.values result.read }
+    ensures { Begins (is_some devices) (places_or devices) r.values input.now read result.registers.values result.read }
 {
-    if !devices {
+    let Some(places) = devices else {
         return Beginning { registers: r, read };
-    }
+    };
     let values = r.values;
     let c = devices_at(values, places);
     let begun = session::begin(c, input, read);
@@ -95,24 +94,23 @@ fn narrow(c: Devices) -> Devices
 
 // The print after a cycle, and the number of bytes printed.
 pub fn end_cycle(
-    devices: bool,
-    places: [usize; DEVICE_REGISTERS],
+    devices: Option<[usize; DEVICE_REGISTERS]>,
     r: [u16; MOST_REGISTERS],
     output: &mut [u8],
     printed: usize,
 ) -> usize
-    requires { not devices || ltb printed (length output.old) ≡ true }
-    ensures { PrintedBy (marked_by devices places r) output.old printed output.new result }
+    requires { not (is_some devices) || ltb printed (length output.old) ≡ true }
+    ensures { PrintedBy (marked_by (is_some devices) (places_or devices) r) output.old printed output.new result }
 {
-    if !devices {
+    let Some(places) = devices else {
         return printed;
-    }
+    };
     session::print(output, printed, narrow(devices_at(r, places)))
 }
 
 // Whether there is room for a print, which counts only with devices.
-pub fn has_room(devices: bool, printed: usize, room: usize) -> bool
-    ensures { result ≡ not devices || ltb printed room }
+pub fn has_room(devices: Option<[usize; DEVICE_REGISTERS]>, printed: usize, room: usize) -> bool
+    ensures { result ≡ not (is_some devices) || ltb printed room }
 {
-    !devices | (printed < room)
+    devices.is_none() | (printed < room)
 }

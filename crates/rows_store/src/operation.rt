@@ -1,6 +1,5 @@
 // The operators, as the stored words of an expression have them: by number, over values of 16 bits.
 ghost use Rattle.std.specs.Prelude.{◌≡◌, ◌%◌, ◌<◌};
-ghost use Rattle.word.specs.Choice.{bit};
 ghost use Rattle.word.specs.Word.{swapped};
 ghost use Rattle.rows_store.specs.Shifts.{cut};
 ghost use Rattle.rows_store.specs.Operation.{complement_of, rotated_by, combined, operated};
@@ -18,8 +17,8 @@ fn complement_of(a: u16, x: u16) -> u16
 
 // The p bits at the right end and the q bits before them, changing places.
 fn exchanged(p: u16, q: u16, x: u16) -> u16
-    requires fact_1 { p < 32 }
-    requires fact_2 { q < 32 }
+    requires right_end { p < 32 }
+    requires before_it { q < 32 }
     ensures { result ≡ cut (swapped p q x) }
 {
     let seam = power_of(p);
@@ -50,22 +49,15 @@ fn rotated_by(kind: u16, w: u16, b: u16, x: u16) -> u16
     }
 }
 
-// A test as a bit.
-fn bit_of(flag: bool) -> u16
-    ensures { result ≡ bit flag }
-{
-    if flag { 1 } else { 0 }
-}
-
-// The operators with two sides but @.
+// The operators with two sides but @. Their kinds stay the numbers that a row's plan holds: an enum would have to be made of one at each row.
 fn combine(kind: u16, x: u16, y: u16) -> u16
     ensures { result ≡ combined kind x y }
 {
     match kind {
         kinds::SUM => ((x as u32 + y as u32) % 65536) as u16,
-        kinds::EQUAL => bit_of(x == y),
-        kinds::UNEQUAL => bit_of(!(x == y)),
-        kinds::LESS => bit_of(x < y),
+        kinds::EQUAL => u16::from(x == y),
+        kinds::UNEQUAL => u16::from(x != y),
+        kinds::LESS => u16::from(x < y),
         kinds::AND => x & y,
         _ => x | y,
     }

@@ -11,8 +11,8 @@ pub fn power_of(n: u16) -> u32
 
 // x with so many zeros on its right.
 pub fn shifted(x: u16, n: u16) -> u64
-    ensures fact_1 { result ≡ x * power n }
-    ensures fact_2 { result < 2 ^ 47 }
+    ensures value { result ≡ x * power n }
+    ensures small { result < 2 ^ 47 }
 {
     (x as u64) << (n % 32)
 }

@@ -11,7 +11,7 @@ use rows_store::{MEMORY_WORDS, register_value};
 use text_code::{CODE_PLACES, kinds};
 use text_limits::MOST_REGISTERS;
 
-// The places of the stack: one for each piece that an expression may have.
+// The places of the stack: one for each piece that an expression may have. It stays an array and a depth, since nothing here may come from a heap.
 const STACK_PLACES: usize = 32;
 
 // A register, a bit part of one, or a constant.
@@ -50,8 +50,8 @@ fn word_value(
     x: u16,
     y: u16,
 ) -> u16
-    requires fact_1 { at + 4 ≤ code_places }
-    requires fact_2 { length memory.now ≡ memory_words }
+    requires word_fits { at + 4 ≤ code_places }
+    requires whole_memory { length memory.now ≡ memory_words }
     ensures { result ≡ word_value (record { registers = r.now; memory = memory.now })
         (get_or code.now at 0) (get_or code.now (at + 1) 0) (get_or code.now (at + 2) 0) (get_or code.now (at + 3) 0) x y }
 {
@@ -74,15 +74,14 @@ fn value_of(
     r: &[u16; MOST_REGISTERS],
     memory: &[u16],
 ) -> u16
-    requires fact_1 { from + 4 * n ≤ code_places }
-    requires fact_2 { length memory.now ≡ memory_words }
+    requires words_fit { from + 4 * n ≤ code_places }
+    requires whole_memory { length memory.now ≡ memory_words }
     ensures { result ≡ result_of (record { registers = r.now; memory = memory.now }) code.now from n }
 {
     let mut stack = [0u16; STACK_PLACES];
     let mut depth = 0;
-    let mut at = from;
-    let mut left = n;
-    while 0 < left {
+    for k in 0..n {
+        let at = from + 4 * k;
         let base = (depth + STACK_PLACES - pops(code[at])) % STACK_PLACES;
         stack[base] = word_value(
             code,
@@ -93,8 +92,6 @@ fn value_of(
             stack[(base + 1) % STACK_PLACES],
         );
         depth = base + 1;
-        at += 4;
-        left -= 1;
     }
     stack[0]
 }

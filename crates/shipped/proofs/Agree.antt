@@ -9,11 +9,11 @@ use Rattle.word.proofs.Choice.{case_true}
 use Rattle.state.specs.Refusals.{reason_of, reason_with, reason_number}
 use Rattle.state.specs.Checks.{check_state}
 use Rattle.state.specs.declared.Refusal.{Refusal}
-use Rattle.state.specs.declared.Verdict.{Verdict}
-use Rattle.state.specs.declared.Verdict.TheVariants.{Fit, Unfit}
+use Rattle.state.specs.Refusals.{Verdict}
+use Rattle.std.specs.Prelude.{Ok, Err}
 use Rattle.devices.specs.declared.Devices.{Devices}
 use Rattle.devices.specs.Devices.{device_widths, device_values}
-use Rattle.devices.specs.Session.{Session, opened, untouched}
+use Rattle.devices.specs.Session.{Session, untouched}
 use Rattle.devices.proofs.Sessions.{Paired, same_place, same_exchange}
 use Rattle.machine_state.specs.declared.Machine.{Machine}
 use Rattle.machine_state.specs.State.{State, start, registers}
@@ -22,7 +22,6 @@ use Rattle.machine_console.specs.Console.{Console, console}
 use Rattle.runs.specs.Run.{Ended}
 use Rattle.runs.proofs.Alike.{Alike}
 use Rattle.machine_run.specs.Run as steps
-use Rattle.machine_console.specs.Console as consoles
 use Rattle.emulator.specs.Emulate as emulator
 use Rattle.emulator.specs.Emulate.{emulate, emulate_devices}
 use Rattle.text_description.specs.Description as text
@@ -30,12 +29,10 @@ use Rattle.rows_value.specs.Value as rows
 use Rattle.rows_cycles.specs.Cycle.{Cycle}
 use Rattle.rows_cycles.specs.Run.{at_entry, running}
 use Rattle.rows_cycles.specs.Run as cycles
-use Rattle.rows_cycles.specs.Devices.{has_devices, run_devices}
+use Rattle.rows_cycles.specs.Devices.{has_devices}
 use Rattle.evaluator.specs.Evaluate as evaluator
 use Rattle.evaluator.specs.Evaluate.{evaluate, evaluate_of, evaluate_devices, evaluate_devices_of, run_of, without, check}
-use Rattle.evaluator.specs.declared.Outcome.TheVariants.{Refused}
 use Rattle.shipped_rows.specs.Variant.{Variant, plain, devices, values_of}
-use Rattle.shipped_rows.specs.Text.{shipped_text}
 use Rattle.shipped_rows.specs.Shipped.{shipped}
 use Rattle.shipped.specs.Claim.{machine_part, Start, emulation, evaluation, Same, by_steps, last_cycle, by_cycles, Claim}
 use Rattle.shipped_rows.proofs.Accepted.{shipped_read}
@@ -44,8 +41,8 @@ use Rattle.shipped_rows.proofs.Places.{work_values}
 use Rattle.shipped.proofs.Starts.{machine_first, work_of, start_in_places, start_sound, work_fits, emulator_passes, evaluator_passes}
 
 -- an answer by a check that found nothing
-passed : {A : Type 0} (v : Verdict) (ran : A) (refused : Refusal → A) → v ≡ Fit → elim v [ Fit ↦ ran | Unfit why ↦ refused why ] ≡ ran
-passed {A} v ran refused e = ap {B = A} (λ (u : Verdict). elim u [ Fit ↦ ran | Unfit why ↦ refused why ]) e
+passed : {A : Type 0} (v : Verdict) (ran : A) (refused : Refusal → A) → v ≡ Ok tt → elim v [ Ok fit ↦ ran | Err why ↦ refused why ] ≡ ran
+passed {A} v ran refused e = ap {B = A} (λ (u : Verdict). elim u [ Ok fit ↦ ran | Err why ↦ refused why ]) e
 
 -- ---- neither refuses
 
@@ -66,12 +63,12 @@ evaluated plain {m} {c} {registers} {memory} {budget} {list} input output s =
     ap (λ (r : evaluator.Report). without r output)
     (ap (λ (a : text.Acceptance). evaluate_of a registers memory budget list) (shipped_read plain)
     ∙ passed (check (shipped plain) registers memory budget list) (by_cycles plain (record { registers = registers; memory = memory }) budget list input output).report
-    (λ why. evaluator.outcome_of (Refused why) registers memory list) (evaluator_passes s))
+    (λ why. evaluator.outcome_of (evaluator.unfit why) registers memory list) (evaluator_passes s))
 evaluated devices {m} {c} {registers} {memory} {budget} {list} input output s =
     let from : rows.State = record { registers = registers; memory = memory } in
     ap (λ (a : text.Acceptance). evaluate_devices_of a registers memory budget list input output) (shipped_read devices)
     ∙ passed (check (shipped devices) registers memory budget list) (run_of (shipped devices) from budget list input output)
-    (λ why. without (evaluator.outcome_of (Refused why) registers memory list) output) (evaluator_passes s)
+    (λ why. without (evaluator.outcome_of (evaluator.unfit why) registers memory list) output) (evaluator_passes s)
     ∙ case_true (has_devices (shipped devices)) (by_cycles devices from budget list input output)
     (without (evaluator.finished (running (shipped devices)) (cycles.run (shipped devices) budget from) list) output) has_devices_lem
 

@@ -26,7 +26,6 @@ use Rattle.rows_value.specs.Value as rows
 use Rattle.rows_cycles.specs.Cycle.{Cycle, cycle}
 use Rattle.rows_cycles.specs.Run.{goes_on, from_last, at_entry, running}
 use Rattle.rows_cycles.specs.Devices.{device_places, attached_at}
-use Rattle.evaluator.specs.declared.Outcome.TheVariants.{Ran}
 use Rattle.evaluator.specs.Evaluate as evaluator
 use Rattle.evaluator.specs.Evaluate.{outcome_of, without}
 use Rattle.shipped_rows.specs.Variant.{Variant, plain, devices}
@@ -67,18 +66,18 @@ steps_halted devices m c memory budget input output e =
 
 -- by the rows' cycles
 cycles_halted : (v : Variant) (s : rows.State) (budget : ℕ) (list input output : List ℕ) → running (shipped v) s ≡ 0
-    → by_cycles v s budget list input output ≡ without (outcome_of (Ran Halted 0 0) s.registers s.memory list) output
+    → by_cycles v s budget list input output ≡ without (outcome_of (evaluator.ran Halted 0 0) s.registers s.memory list) output
 cycles_halted plain s budget list input output e =
     ap (λ (r : Ended Cycle). without (evaluator.finished (running (shipped plain)) r list) output)
     (stopped_at_entry (goes_on (running (shipped plain))) (from_last (cycle (shipped plain).rows)) budget (at_entry s) (ap on e))
-    ∙ ap (λ (n : ℕ). without (outcome_of (Ran (reason_of n) 0 0) s.registers s.memory list) output) e
+    ∙ ap (λ (n : ℕ). without (outcome_of (evaluator.ran (reason_of n) 0 0) s.registers s.memory list) output) e
 cycles_halted devices s budget list input output e =
     let x = opened (at_entry s) input in
     let place : Bool = place_left (length output) x in
     ap (λ (r : Ended (Session Cycle)). evaluator.finished_devices (running (shipped devices)) r list input output)
     (stopped_at_entry (session.goes_on (goes_on (running (shipped devices))) (length output))
     (turn (attached_at (device_places (shipped devices))) (from_last (cycle (shipped devices).rows))) budget x (ap (λ (n : ℕ). on n && place) e))
-    ∙ ap₂ (λ (n : ℕ) (t : Exchange). record { report = outcome_of (Ran (reason_with n place) 0 0) s.registers s.memory list; exchange = t }) e
+    ∙ ap₂ (λ (n : ℕ) (t : Exchange). record { report = outcome_of (evaluator.ran (reason_with n place) 0 0) s.registers s.memory list; exchange = t }) e
     (nothing_exchanged (at_entry s) input output)
 
 -- RUN is 0 in the evaluator's place of it, too
@@ -105,7 +104,7 @@ module _ (v : Variant) (m : Machine) (c : Devices) (registers memory list input 
   pub run_0 : (budget : ℕ) → m.run ≡ 0 → Start v m c registers memory budget list
       → Claim v m c registers memory budget list input output
       × (emulation v m c memory budget input output ≡ record { report = emulator.ran m Halted 0 memory; devices = c; exchange = untouched output })
-      × (evaluation v registers memory budget list input output ≡ without (outcome_of (Ran Halted 0 0) registers memory list) output)
+      × (evaluation v registers memory budget list input output ≡ without (outcome_of (evaluator.ran Halted 0 0) registers memory list) output)
   run_0 budget e s =
       let claim = runs_agree v m c registers memory budget list input output s in (
         claim,

@@ -11,7 +11,7 @@ use borrow.Author.Tests.{le-ltb}
 use Rattle.state.specs.Acceptable.{Fitting}
 use Rattle.state.specs.Checks.{check_state}
 use Rattle.state.specs.Limits.{budget_limit, row_places}
-use Rattle.state.specs.declared.Verdict.TheVariants.{Fit as Passed}
+use Rattle.std.specs.Prelude.{Ok}
 use Rattle.state.proofs.Accepted.{sound_state}
 use Rattle.devices.specs.declared.Devices.{Devices}
 use Rattle.devices.specs.Devices.{DevicesFit, device_registers, device_values}
@@ -156,12 +156,12 @@ module _ {v : Variant} {m : Machine} {c : Devices} {registers memory : List ℕ}
       }
 
   -- neither check finds anything
-  pub emulator_passes : check_state (map width (registers_of v)) (values_of v m c) memory budget ≡ Passed
+  pub emulator_passes : check_state (map width (registers_of v)) (values_of v m c) memory budget ≡ Ok tt
   emulator_passes =
       sound_state (map width (registers_of v)) (values_of v m c) memory budget s.acceptable
       (first_fit (registers_of v) working_registers (values_of v m c) (work_values work) (as_many v m c) fitting) s.within
 
-  pub evaluator_passes : check (shipped v) registers memory budget list ≡ Passed
+  pub evaluator_passes : check (shipped v) registers memory budget list ≡ Ok tt
   evaluator_passes =
       rw (sound_state (widths_of (shipped v)) registers memory budget s.acceptable s.fitting s.within, le-ltb (length list) row_places s.roomy)
 

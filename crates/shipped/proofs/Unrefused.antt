@@ -7,8 +7,8 @@ use Prim.Native.Nat.{ℕ}
 use lib.ListN.{length}
 use Rattle.state.specs.Checks.{check_state, check_row_list}
 use Rattle.state.specs.declared.Refusal.{Refusal}
-use Rattle.state.specs.declared.Verdict.{Verdict}
-use Rattle.state.specs.declared.Verdict.TheVariants.{Fit, Unfit}
+use Rattle.state.specs.Refusals.{Verdict}
+use Rattle.std.specs.Prelude.{Ok, Err}
 use Rattle.state.proofs.Accepted.{row_list_long, both_fit, state_sound}
 use Rattle.state.proofs.Numbers.{numbered}
 use Rattle.devices.specs.declared.Devices.{Devices}
@@ -16,10 +16,8 @@ use Rattle.machine_state.specs.declared.Machine.{Machine}
 use Rattle.emulator.specs.Emulate as emulator
 use Rattle.text_limits.specs.Limits.{most_registers}
 use Rattle.text_description.specs.Description as text
-use Rattle.evaluator.specs.declared.Outcome.TheVariants.{Refused}
-use Rattle.evaluator.specs.Evaluate.{Report, DeviceReport, outcome_of, widths_of, check, evaluate_of, evaluate, without, run_of, evaluate_devices_of, evaluate_devices}
+use Rattle.evaluator.specs.Evaluate.{Report, DeviceReport, unfit, outcome_of, widths_of, check, evaluate_of, evaluate, without, run_of, evaluate_devices_of, evaluate_devices}
 use Rattle.shipped_rows.specs.Variant.{Variant, plain, devices, values_of}
-use Rattle.shipped_rows.specs.Text.{shipped_text}
 use Rattle.shipped_rows.specs.Shipped.{shipped}
 use Rattle.shipped.specs.Claim.{machine_part, Start, emulation, evaluation, Same, by_cycles, Claim, Together}
 use Rattle.shipped_rows.proofs.Accepted.{shipped_read}
@@ -27,27 +25,27 @@ use Rattle.shipped.proofs.Agree.{runs_agree}
 
 -- a check by which nothing was refused found nothing
 passes : {A : Type 0} (number : A → ℕ) (v : Verdict) (ran : A) (refused : Refusal → A) → ((why : Refusal) → number (refused why) ≡ 0 → ⊥)
-    → number (elim v [ Fit ↦ ran | Unfit why ↦ refused why ]) ≡ 0 → v ≡ Fit
-passes number Fit ran refused some e = refl
-passes number (Unfit why) ran refused some e = absurd (some why e)
+    → number (elim v [ Ok fit ↦ ran | Err why ↦ refused why ]) ≡ 0 → v ≡ Ok tt
+passes number (Ok fit) ran refused some e = refl
+passes number (Err why) ran refused some e = absurd (some why e)
 
 unrefused : (v : Variant) (registers memory : List ℕ) (budget : ℕ) (list input output : List ℕ)
-    → (evaluation v registers memory budget list input output).report.number ≡ 0 → check (shipped v) registers memory budget list ≡ Fit
+    → (evaluation v registers memory budget list input output).report.number ≡ 0 → check (shipped v) registers memory budget list ≡ Ok tt
 unfolding evaluate evaluate_of evaluate_devices evaluate_devices_of
 unrefused plain registers memory budget list input output e =
     passes (λ (r : Report). r.number) (check (shipped plain) registers memory budget list)
     (by_cycles plain (record { registers = registers; memory = memory }) budget list input output).report
-    (λ why. outcome_of (Refused why) registers memory list) numbered
+    (λ why. outcome_of (unfit why) registers memory list) numbered
     (ap (λ (a : text.Acceptance). (evaluate_of a registers memory budget list).number) (sym (shipped_read plain)) ∙ e)
 unrefused devices registers memory budget list input output e =
     passes (λ (r : DeviceReport). r.report.number) (check (shipped devices) registers memory budget list)
     (run_of (shipped devices) (record { registers = registers; memory = memory }) budget list input output)
-    (λ why. without (outcome_of (Refused why) registers memory list) output) numbered
+    (λ why. without (outcome_of (unfit why) registers memory list) output) numbered
     (ap (λ (a : text.Acceptance). (evaluate_devices_of a registers memory budget list input output).report.number) (sym (shipped_read devices)) ∙ e)
 
 module _ (v : Variant) (m : Machine) (c : Devices) (registers memory : List ℕ) (budget : ℕ) (list input output : List ℕ) where
   -- what passes the evaluator's checks is a start
-  start_of : length registers ≡ most_registers → machine_part v registers ≡ values_of v m c → check (shipped v) registers memory budget list ≡ Fit
+  start_of : length registers ≡ most_registers → machine_part v registers ≡ values_of v m c → check (shipped v) registers memory budget list ≡ Ok tt
       → Start v m c registers memory budget list
   start_of places machine e =
       let outer = both_fit (check_state (widths_of (shipped v)) registers memory budget) (check_row_list (length list)) e in

@@ -1,7 +1,7 @@
 -- "Demand 3 is one claim about two whole runs": of the emulator, and of the evaluator on the shipped description, from one start; for every variant of the machine,
 -- on its own description. It is said over the definitions that the entries' contracts cite; a shipped description is what the reader reads in its text.
 -- Assumes nothing.
-use Rattle.std.specs.Prelude.{◌≡◌, List, [], ◌++◌, ℕ, ◌≤◌, ◌<◌, ◌^◌, length, take, drop}
+use Rattle.std.specs.Prelude.{◌≡◌, List, ◌++◌, ℕ, ◌≤◌, length, take, drop}
 use Rattle.state.specs.Limits.{budget_limit, row_places}
 use Rattle.state.specs.Acceptable.{Acceptable, Fitting}
 use Rattle.devices.specs.declared.Devices.{Devices}

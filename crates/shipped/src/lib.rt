@@ -4,10 +4,8 @@
 ghost use Rattle.std.specs.Prelude.{◌≡◌};
 ghost use Rattle.emulator.specs.Emulate as emulator;
 ghost use Rattle.evaluator.specs.Evaluate as evaluator;
-ghost use Rattle.shipped_rows.specs.Variant.{plain, devices as with_devices, variant_of};
+ghost use Rattle.shipped_rows.specs.Variant.{variant_of};
 ghost use Rattle.shipped.specs.Claim.{emulation, evaluation, Together};
-ghost use Rattle.evaluator.specs.Evaluate.{evaluate};
-ghost use Rattle.shipped_rows.specs.Text.{shipped_text};
 
 use devices::Devices;
 use machine_state::Machine;
@@ -21,7 +19,7 @@ pub struct Both {
 }
 
 // The emulator, by the entry of its variant; without devices theirs stay, and nothing is read or printed.
-fn emulate_variant(
+pub fn emulate_variant(
     devices: bool,
     memory: &mut [u16],
     m: Machine,
@@ -36,46 +34,16 @@ fn emulate_variant(
     if devices {
         return emulator::emulate_devices(memory, m, c, budget, input, output);
     }
-    let answer = emulator::emulate(memory, m, budget);
     emulator::DeviceAnswer {
-        answer: answer,
+        answer: emulator::emulate(memory, m, budget),
         devices: c,
         read: 0,
         printed: 0,
     }
 }
 
-// The evaluator on the shipped description without devices.
-fn evaluate_shipped(
-    memory: &mut [u16],
-    registers: Registers,
-    budget: u64,
-    rows: &mut [u8],
-) -> evaluator::Answer
-    ensures { evaluator.report result memory.new rows.new ≡ evaluate (shipped_text plain) registers.values memory.old budget rows.old }
-{
-    let text = shipped_rows::shipped_text();
-    evaluator::evaluate(&text, memory, registers, budget, rows)
-}
-
-// The evaluator on the one with devices.
-fn evaluate_twin(
-    memory: &mut [u16],
-    registers: Registers,
-    budget: u64,
-    rows: &mut [u8],
-    input: &[u8],
-    output: &mut [u8],
-) -> evaluator::DeviceAnswer
-    ensures { evaluator.device_report result memory.new rows.new output.new
-        ≡ evaluation with_devices registers.values memory.old budget rows.old input.now output.old }
-{
-    let text = shipped_rows::twin::devices_text();
-    evaluator::evaluate_devices(&text, memory, registers, budget, rows, input, output)
-}
-
-// The evaluator, by the entry of its variant; without devices nothing is read or printed.
-fn evaluate_variant(
+// The evaluator on the shipped description of the variant, by its entry; without devices nothing is read or printed.
+pub fn evaluate_variant(
     devices: bool,
     memory: &mut [u16],
     registers: Registers,
@@ -87,12 +55,12 @@ fn evaluate_variant(
     ensures { evaluator.device_report result memory.new rows.new output.new
         ≡ evaluation (variant_of devices) registers.values memory.old budget rows.old input.now output.old }
 {
+    let text = shipped_rows::shipped_text(devices);
     if devices {
-        return evaluate_twin(memory, registers, budget, rows, input, output);
+        return evaluator::evaluate_devices(text, memory, registers, budget, rows, input, output);
     }
-    let answer = evaluate_shipped(memory, registers, budget, rows);
     evaluator::DeviceAnswer {
-        answer: answer,
+        answer: evaluator::evaluate(text, memory, registers, budget, rows),
         read: 0,
         printed: 0,
     }
@@ -120,7 +88,7 @@ pub fn run_both(
     let emulated = emulate_variant(devices, first, m, c, budget, input, left);
     let evaluated = evaluate_variant(devices, second, registers, budget, rows, input, right);
     Both {
-        emulated: emulated,
-        evaluated: evaluated,
+        emulated,
+        evaluated,
     }
 }

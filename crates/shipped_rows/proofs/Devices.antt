@@ -1,7 +1,7 @@
 -- The rows of keyboard and teleprinter: they do what a word of theirs does, and nothing at another.
 -- Assumes nothing.
-use mathlib.Core.Path.{◌≡◌, refl, sym, ap, ap₂, ◌∙◌}
-use mathlib.Core.Bool.{false, ◌&&◌, ◌||◌}
+use mathlib.Core.Path.{◌≡◌, refl, ap, ap₂}
+use mathlib.Core.Bool.{false, ◌||◌}
 use mathlib.Core.List.{List}
 use Prim.Native.Nat.{ℕ}
 use native.Mathlib.Nat.{mod-eq_of_lt}
@@ -19,7 +19,7 @@ use Rattle.shipped_rows.specs.Variant.{Variant, plain, devices}
 use Rattle.shipped_rows.proofs.Tree.{rows·devices}
 use Rattle.shipped_rows.proofs.Places.{Work, in_places}
 use Rattle.shipped_rows.proofs.Ends.{Ends, seen, moved}
-use Rattle.shipped_rows.proofs.Bits.{Flag, of_test, of_bit, flag_and, flag_or, on_flag}
+use Rattle.shipped_rows.proofs.Bits.{of_test, of_bit, flag_and, flag_or, on_flag}
 use Rattle.shipped_rows.proofs.DeviceWords.{devices_stay, state_stays, prints_found}
 use Rattle.devices.proofs.Starts.{Flags}
 use Rattle.shipped_rows.proofs.Machines.{for_devices, FlagsOf}

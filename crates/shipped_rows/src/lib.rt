@@ -4,13 +4,11 @@
 pub mod twin;
 
 ghost use Rattle.std.specs.Prelude.{◌≡◌};
-ghost use Rattle.shipped_rows.specs.Variant.{plain};
+ghost use Rattle.shipped_rows.specs.Variant.{variant_of};
 ghost use Rattle.shipped_rows.specs.Text.{shipped_text};
 
-pub const DESCRIPTION_BYTES: usize = 1658;
-
 // description/pdp8.rows, byte for byte.
-const DESCRIPTION: [u8; DESCRIPTION_BYTES] = *b"rows\t1\n\
+const DESCRIPTION: &[u8] = b"rows\t1\n\
 reg\tLAC\t13\n\
 reg\tPC\t12\n\
 reg\tRUN\t1\n\
@@ -102,9 +100,13 @@ do\t1\tINTERRUPT.ENABLE\t0\n\
 at\trestart\n\
 ";
 
-// The shipped description.
-pub fn shipped_text() -> [u8; DESCRIPTION_BYTES]
-    ensures { result ≡ shipped_text plain }
+// The shipped description of the machine with devices or without.
+pub fn shipped_text(devices: bool) -> &'static [u8]
+    ensures { result.now ≡ shipped_text (variant_of devices) }
 {
-    DESCRIPTION
+    if devices {
+        twin::DESCRIPTION
+    } else {
+        DESCRIPTION
+    }
 }

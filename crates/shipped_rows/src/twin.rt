@@ -1,12 +1,7 @@
 // The shipped description of the PDP-8 with keyboard and teleprinter.
-ghost use Rattle.std.specs.Prelude.{◌≡◌};
-ghost use Rattle.shipped_rows.specs.Variant.{devices};
-ghost use Rattle.shipped_rows.specs.Text.{shipped_text};
-
-pub const DESCRIPTION_BYTES: usize = 2163;
 
 // description/pdp8-devices.rows, byte for byte.
-const DESCRIPTION: [u8; DESCRIPTION_BYTES] = *b"rows\t1\n\
+pub(crate) const DESCRIPTION: &[u8] = b"rows\t1\n\
 reg\tLAC\t13\n\
 reg\tPC\t12\n\
 reg\tRUN\t1\n\
@@ -110,10 +105,3 @@ do\t1\tPC\t1\n\
 do\t1\tINTERRUPT.ENABLE\t0\n\
 at\trestart\n\
 ";
-
-// The shipped description with devices.
-pub fn devices_text() -> [u8; DESCRIPTION_BYTES]
-    ensures { result ≡ shipped_text devices }
-{
-    DESCRIPTION
-}

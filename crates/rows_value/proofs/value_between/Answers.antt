@@ -11,7 +11,7 @@ overflow_sub-to c = leb-true _ _ (and_left _ _ c.if-from-to.true)
 
 pub value_of-requires : goal.value_of-requires
 value_of-requires c = let last = leb-true c.args.to code_places (and_right (leb c.args.from c.args.to) (leb c.args.to code_places) c.if-from-to.true) in
-    record { fact_1 = omega (arith, overflow_sub-to c, last); fact_2 = c.requires }
+    record { words_fit = omega (arith, overflow_sub-to c, last); whole_memory = c.requires }
 
 pub returns-then-from-to : goal.returns-then-from-to
 unfolding between

@@ -1,19 +1,15 @@
--- `guavachisel::reading::guavachisel_read` hands over each case of the reader's verdict.
+-- `guavachisel::reading::guavachisel_read` hands over each case of the reader's answer.
 use mathlib.Core.Path.{sym, ap, ◌∙◌}
 use Rattle.text_description.specs.Description.{Acceptance}
-use Rattle.text_description.proofs.Texts.{leaves_is}
-use borrow.Author.Rules.{rules}
+use Rattle.text_description.proofs.Texts.{leaves_is, leaves_turned_down}
 use Rattle.guavachisel.specs.Outcome.{places}
 use Rattle.guavachisel.specs.Reading.{outcome_of}
 use Rattle.guavachisel.proofs.reading.guavachisel_read.Goals as goal
 
-pub enum_told-1 : goal.enum_told-1
-enum_told-1 c = search rules
+pub returns-in-Ok : goal.returns-in-Ok
+returns-in-Ok c = (rw c.answered.ensures at c.into.ensures)
+    ∙ sym (ap (λ (a : Acceptance). places (outcome_of a)) (leaves_is _ _ _ (rw c.in-Ok.is at c.read.ensures)))
 
-pub returns-in-Accepted : goal.returns-in-Accepted
-returns-in-Accepted c = c.answered.ensures
-    ∙ sym (ap (λ (a : Acceptance). places (outcome_of a)) (rw c.in-Accepted.is at (leaves_is _ _ _ c.read-findings.ensures)))
-
-pub returns-in-Refused : goal.returns-in-Refused
-returns-in-Refused c = c.unread.ensures
-    ∙ sym (ap (λ (a : Acceptance). places (outcome_of a)) (rw c.in-Refused.is at (leaves_is _ _ _ c.read-findings.ensures)))
+pub returns-in-Err : goal.returns-in-Err
+returns-in-Err c = (rw c.unread.ensures at c.into-in-Err.ensures)
+    ∙ sym (ap (λ (a : Acceptance). places (outcome_of a)) (leaves_turned_down _ _ _ (rw c.in-Err.is at c.read.ensures)))

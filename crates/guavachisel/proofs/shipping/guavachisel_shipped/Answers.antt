@@ -1,15 +1,14 @@
 -- `guavachisel::shipping::guavachisel_shipped` hands over the text of a number that has one.
-use Rattle.guavachisel.proofs.Rooms.{plain_described, devices_described, undescribed}
-use borrow.Author.Rules.{rules}
+use Rattle.std.specs.Prelude.{◌≡◌, []}
+use Rattle.std.proofs.lemmas.Option.{MatchOption-at_none, MatchOption-at_some}
+use Rattle.guavachisel.specs.Shipping.{shipped_of}
+use Rattle.guavachisel.proofs.Rooms.{described, undescribed}
 use Rattle.guavachisel.proofs.shipping.guavachisel_shipped.Goals as goal
 
-pub returns-then-which-eq-PLAIN : goal.returns-then-which-eq-PLAIN
-returns-then-which-eq-PLAIN c = plain_described c.args.which c.args.text.now c.shipped_text-description.result _ _ _ c.if-which-eq-PLAIN.true c.shipped_text-description.ensures (search rules)
-    c.write.ensures c.answered.ensures
+pub returns-in-Some : goal.returns-in-Some
+returns-in-Some c = described c.args.which c.args.text.now _ _ _ (MatchOption-at_some (shipped_of c.args.which ≡ []) (λ d. d.now ≡ shipped_of c.args.which) _ c.in-Some.is c.description_of.ensures)
+    c.write.ensures (rw c.answered.ensures at c.into.ensures)
 
-pub returns-then-which-eq-DEVICES : goal.returns-then-which-eq-DEVICES
-returns-then-which-eq-DEVICES c = devices_described c.args.which c.args.text.now c.devices_text-twin.result _ _ _ c.if-which-eq-PLAIN.false c.if-which-eq-DEVICES.true c.devices_text-twin.ensures (search rules)
-    c.write-then-which-eq-DEVICES.ensures c.answered-then-which-eq-DEVICES.ensures
-
-pub returns-else-which-eq-DEVICES : goal.returns-else-which-eq-DEVICES
-returns-else-which-eq-DEVICES c = undescribed c.args.which c.args.text.now _ c.if-which-eq-PLAIN.false c.if-which-eq-DEVICES.false c.answered-else-which-eq-DEVICES.ensures
+pub returns-in-None : goal.returns-in-None
+returns-in-None c = undescribed c.args.which c.args.text.now _ (MatchOption-at_none (shipped_of c.args.which ≡ []) (λ d. d.now ≡ shipped_of c.args.which) c.in-None.is c.description_of.ensures)
+    (rw c.answered-in-None.ensures at c.into-in-None.ensures)

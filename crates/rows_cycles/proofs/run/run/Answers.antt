@@ -6,13 +6,13 @@ use Rattle.rows_cycles.proofs.run.run.Goals as goal
 use Rattle.rows_cycles.proofs.run.run.Goals.{else-loop-done-test, then-loop-done-test+then-value_at-has_room}
 
 pub loop-done-init : goal.loop-done-init
-loop-done-init c = going_start _ _ _ _ _ _ _ _ _ _ _ c.requires.fact_2 c.requires.fact_3
+loop-done-init c = going_start _ _ _ _ _ _ _ _ _ _ _ c.requires.whole_memory c.requires.whole_list
 
 pub begin_cycle-b-requires : goal.begin_cycle-b-requires
 begin_cycle-b-requires c = c.loop-done.invariant.arrived
 
 pub cycle-t-requires : goal.cycle-t-requires
-cycle-t-requires c = record { fact_1 = c.requires.fact_1; fact_2 = c.loop-done.invariant.size; fact_3 = c.loop-done.invariant.long; fact_4 = c.requires.fact_4 }
+cycle-t-requires c = record { whole_memory = c.loop-done.invariant.size; whole_list = c.loop-done.invariant.long }
 
 pub end_cycle-printed-requires : goal.end_cycle-printed-requires
 end_cycle-printed-requires c = room_here _ _ _ _ _ _ _ _ _ _ _ _ _ _ _ _ _ c.loop-done.invariant c.value_at.result c.has_room.result

@@ -9,15 +9,15 @@ returns-in-8 c = rw c.in-8.is
 
 pub returns-in-9 : goal.returns-in-9
 unfolding combined
-returns-in-9 c = rw c.in-9.is c.bit_of.ensures
+returns-in-9 c = rw c.in-9.is c.from.ensures
 
 pub returns-in-10 : goal.returns-in-10
 unfolding combined
-returns-in-10 c = rw c.in-10.is c.bit_of-in-10.ensures
+returns-in-10 c = rw c.in-10.is c.from-in-10.ensures
 
 pub returns-in-11 : goal.returns-in-11
 unfolding combined
-returns-in-11 c = rw c.in-11.is c.bit_of-in-11.ensures
+returns-in-11 c = rw c.in-11.is c.from-in-11.ensures
 
 pub returns-in-12 : goal.returns-in-12
 unfolding combined

@@ -25,4 +25,4 @@ pub overflow_cast-result-5 : goal.overflow_cast-result-5
 overflow_cast-result-5 c = omega (arith, div-le_self c.args.x c.power_of-seam.result, c.ranges)
 
 pub returns : goal.returns
-returns c = rw (c.power_of-seam.ensures.is, c.power_of.ensures.is, mod-eq_of_lt c.requires.fact_1, mod-eq_of_lt c.requires.fact_2)
+returns c = rw (c.power_of-seam.ensures.is, c.power_of.ensures.is, mod-eq_of_lt c.requires.right_end, mod-eq_of_lt c.requires.before_it)

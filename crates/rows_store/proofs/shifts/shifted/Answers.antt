@@ -11,4 +11,4 @@ returns c = let places = c.args.n % 32 in
     let narrow : c.args.x < 2 ^ 16 = search rules in
     let is = shl_exact 16 places 64 narrow (omega arith) in
     let small : c.args.x * 2 ^ places < 2 ^ 47 = lt_of_lt_of_le (shl_lt 16 places narrow) (pow_mono {i = 16 + places} {j = 47} (omega arith)) in
-    record { fact_1 = is; fact_2 = rw is small }
+    record { value = is; small = rw is small }

@@ -3,7 +3,7 @@
 use mathlib.Core.Path.{◌≡◌, refl, sym, ap, ◌∙◌, subst}
 use mathlib.Core.Bool.{true, false, not}
 use mathlib.Core.Logic.{◌⊎◌, inl, inr}
-use mathlib.Core.List.{List, [], ◌++◌, append_assoc}
+use mathlib.Core.List.{List, [], ◌++◌, append_assoc, append-nil}
 use Prim.Native.Nat.{ℕ, zero, suc, ◌+◌, ◌*◌, ◌-◌, ◌≤◌, ◌<◌}
 use native.Mathlib.Nat.{not-suc-le-zero}
 use native.Mathlib.Numerals.{add-one, sub-one}
@@ -18,9 +18,9 @@ use Rattle.machine_run.specs.Run.{running}
 use Rattle.machine_run.proofs.Keeps.{step_good}
 use Rattle.desk_last_lines.specs.LastLines.{end_line}
 use Rattle.desk_day_listing.specs.Listing.{budget, ready, heading, step_line, step_lines, run_listing}
-use Rattle.page.specs.Written.{Written}
-use Rattle.desk_day_listing.specs.Stepped.{step_line_bytes, Stepped}
-use Rattle.page.proofs.Writing.{written_none, written_then}
+use lib.ListN.{length}
+use Rattle.desk_day_listing.specs.Stepped.{step_line_bytes}
+use Rattle.page.proofs.Writing.{drafted_then, drafted_more, drafted_size}
 use Rattle.desk_day_listing.proofs.Sizes.{step_line_size}
 
 -- `left` steps of the budget are left, and `done` steps have been done
@@ -53,44 +53,42 @@ pub run_listing_lem : (memory : List ℕ) → run_listing memory ≡ heading ++ 
 unfolding run_listing
 run_listing_lem memory = append_assoc heading (step_lines budget 0 (ready memory)) _
 
--- ---- a run from s₀, listed from a place of a page on, as far as the state s
+-- ---- a run from s₀, listed behind a draft as far as the state s
 
-pub record Listed (s₀ : State) (page₀ : List ℕ) (at₀ : ℕ) (s : State) (page : List ℕ) (at done : ℕ) : Type 0 where
+pub record Listed (s₀ : State) (draft₀ : List ℕ) (s : State) (draft : List ℕ) (done : ℕ) : Type 0 where
   pub text : List ℕ
-  pub written : Written text page₀ at₀ page at
+  pub written : draft ≡ draft₀ ++ text
   pub whole : rest budget 0 s₀ ≡ text ++ rest (budget - done) done s
   pub good : Good s
   pub count : done ≤ budget
-  pub room : at ≤ at₀ + step_line_bytes * done
+  pub room : length draft ≤ length draft₀ + step_line_bytes * done
 
-pub listed_none : (s : State) (page : List ℕ) (at : ℕ) → Good s → Listed s page at s page at 0
-listed_none s page at g =
-    record { text = []; written = written_none page at; whole = refl; good = g; count = omega arith; room = omega arith }
+pub listed_none : (s : State) (draft : List ℕ) → Good s → Listed s draft s draft 0
+listed_none s draft g =
+    record { text = []; written = sym (append-nil draft); whole = refl; good = g; count = omega arith; room = omega arith }
 
-module _ {s₀ s : State} {page₀ page after : List ℕ} {at₀ at done end : ℕ} (l : Listed s₀ page₀ at₀ s page at done) where
+module _ {s₀ s : State} {draft₀ draft after : List ℕ} {done : ℕ} (l : Listed s₀ draft₀ s draft done) where
   -- one step more
-  pub listed_more : {t : State} {next : ℕ} → done < budget → on s.run ≡ true → Stepped done next s t page at after end
-      → Listed s₀ page₀ at₀ t after end next
-  listed_more {t} h e w =
+  pub listed_more : {t : State} → done < budget → on s.run ≡ true → t ≡ step s
+      → after ≡ draft ++ step_line (done + 1) s.pc (word s.pc s) t.lac t.run → Listed s₀ draft₀ t after (done + 1)
+  listed_more {t} h e q w =
       let line = step_line (done + 1) s.pc (word s.pc s) t.lac t.run in
       let left : budget - done - 1 ≡ budget - (done + 1) = omega arith in
-      subst (λ (n : ℕ). Listed s₀ page₀ at₀ t after end n) (sym w.count)
-      (record {
+      record {
         text = l.text ++ line;
-        written = written_then l.text line l.written w.line;
+        written = drafted_then draft₀ l.text line l.written w;
         whole =
-            l.whole ∙ ap (λ (x : List ℕ). l.text ++ x) (rest_on (budget - done) done s t (omega arith) e w.state)
+            l.whole ∙ ap (λ (x : List ℕ). l.text ++ x) (rest_on (budget - done) done s t (omega arith) e q)
             ∙ sym (append_assoc l.text line _) ∙ ap (λ (n : ℕ). l.text ++ line ++ rest n (done + 1) t) left;
-        good = subst Good (sym w.state) (step_good l.good);
+        good = subst Good (sym q) (step_good l.good);
         count = omega arith;
-        room = omega (arith, w.line.place, step_line_size (done + 1) s.pc (word s.pc s) t.lac t.run (omega arith));
-      })
+        room = omega (arith, l.room, drafted_size draft line w, step_line_size (done + 1) s.pc (word s.pc s) t.lac t.run (omega arith));
+      }
 
   -- the last line
-  pub listed_all : (budget ≤ done) ⊎ (s.run ≡ 0) → Written (end_line done (reason_of s.run)) page at after end
-      → Written (rest budget 0 s₀) page₀ at₀ after end
+  pub listed_all : (budget ≤ done) ⊎ (s.run ≡ 0) → after ≡ draft ++ end_line done (reason_of s.run) → after ≡ draft₀ ++ rest budget 0 s₀
   listed_all d w =
-      rw l.whole (rw (last d) (written_then l.text _ l.written w))
+      drafted_more draft₀ l.text (end_line done (reason_of s.run)) (l.whole ∙ ap (λ (x : List ℕ). l.text ++ x) (last d)) l.written w
     where
       last : (budget ≤ done) ⊎ (s.run ≡ 0) → rest (budget - done) done s ≡ end_line done (reason_of s.run)
       last (inl h) = let none : budget - done ≡ 0 = omega (arith, l.count) in rw none (rest_spent done s)

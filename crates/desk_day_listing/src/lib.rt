@@ -10,7 +10,7 @@ ghost use Rattle.desk_image.specs.Scan.{kept};
 ghost use Rattle.page.specs.Page.{Page};
 
 use desk_image::Scanner;
-use state::{MEMORY_WORDS, Verdict};
+use state::MEMORY_WORDS;
 
 // The bytes of a page that a listing is written to. The longest has 359.
 pub const PAGE_BYTES: usize = 512;
@@ -20,13 +20,12 @@ pub const PAGE_BYTES: usize = 512;
 pub fn listing(memory: &[u16; MEMORY_WORDS], s: Scanner, page: &mut [u8; PAGE_BYTES]) -> usize
     ensures { Page (scan_listing (kept s memory.now)) page.old page.new result }
 {
-    let refused = desk_image::unfit_line(s);
-    if refused != 0 {
+    if let Some(refused) = desk_image::unfit_line(s) {
         return desk_last_lines::put_refused_line(page, refused);
     }
     match state::check_memory(memory) {
-        Verdict::Unfit(_) => 0,
-        Verdict::Fit => {
+        Err(_) => 0,
+        Ok(()) => {
             let mut work = *memory;
             run::put_run(&mut work, page)
         }

@@ -1,31 +1,29 @@
 // The line of a step.
-ghost use Rattle.std.specs.Prelude.{◌+◌, ◌<◌, ◌≤◌};
+ghost use Rattle.std.specs.Prelude.{◌≡◌, ◌+◌, ◌<◌, ◌≤◌, ◌++◌, length};
 ghost use Rattle.desk_day_listing.specs.Listing.{step_line};
-ghost use Rattle.page.specs.Written.{Written};
 ghost use Rattle.desk_day_listing.specs.Stepped.{step_line_bytes, page_bytes};
 
 use crate::PAGE_BYTES;
 use characters::LINE_FEED;
-use page::{put_byte, put_decimal, put_field};
+use page::Draft;
 
 // The step's number, its instruction's address and word, LAC and RUN after it.
 pub(crate) fn put_step_line(
-    page: &mut [u8; PAGE_BYTES],
-    at: usize,
+    draft: &mut Draft<PAGE_BYTES>,
     n: u64,
     pc: u64,
     i: u64,
     lac: u64,
     run: u64,
-) -> usize
-    requires fact_1 { at + step_line_bytes ≤ page_bytes }
-    requires fact_2 { n < 100 }
-    ensures { Written (step_line n pc i lac run) page.old at page.new result }
+)
+    requires room { length draft.old + step_line_bytes ≤ page_bytes }
+    requires two_digits { n < 100 }
+    ensures { draft.new ≡ draft.old ++ step_line n pc i lac run }
 {
-    let count = put_decimal(page, at, n);
-    let address = put_field(page, count, 4, pc);
-    let word = put_field(page, address, 4, i);
-    let accumulator = put_field(page, word, 5, lac);
-    let end = put_field(page, accumulator, 1, run);
-    put_byte(page, end, LINE_FEED)
+    draft.put_decimal(n);
+    draft.put_field(4, pc);
+    draft.put_field(4, i);
+    draft.put_field(5, lac);
+    draft.put_field(1, run);
+    draft.put_byte(LINE_FEED);
 }

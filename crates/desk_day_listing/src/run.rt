@@ -1,72 +1,64 @@
 // The run of a loaded memory, step by step, with its lines.
-ghost use Rattle.std.specs.Prelude.{◌+◌, ◌<◌, ◌≤◌};
+ghost use Rattle.std.specs.Prelude.{◌≡◌, ◌+◌, ◌<◌, ◌≤◌, ◌++◌, length};
 ghost use Rattle.state.specs.Acceptable.{Acceptable};
-ghost use Rattle.machine_state.specs.State.{Good};
+ghost use Rattle.machine_state.specs.State.{Good, word};
 ghost use Rattle.machine_state.specs.Processor.{at as state};
-ghost use Rattle.desk_day_listing.specs.Listing.{run_listing};
+ghost use Rattle.machine_run.specs.Step.{step};
+ghost use Rattle.desk_day_listing.specs.Listing.{step_line, run_listing};
 ghost use Rattle.page.specs.Page.{Page};
-ghost use Rattle.desk_day_listing.specs.Stepped.{step_line_bytes, page_bytes, Stepped};
+ghost use Rattle.desk_day_listing.specs.Stepped.{step_line_bytes, page_bytes};
 
 use crate::PAGE_BYTES;
 use crate::lines::put_step_line;
 use desk_last_lines::put_end_line;
 use machine_state::Processor;
-use page::put_text;
+use page::Draft;
 use state::MEMORY_WORDS;
 
 const BUDGET: u64 = 16;
 
-// A run as far as it is listed: the registers, the steps done, and the place after their lines.
-#[derive(Clone, Copy)]
-struct Progress {
-    processor: Processor,
+// One step and its line, after as many as have been done.
+fn put_step(
+    memory: &mut [u16; MEMORY_WORDS],
+    draft: &mut Draft<PAGE_BYTES>,
     done: u64,
-    at: usize,
-}
-
-// One step more and its line.
-fn put_step(memory: &mut [u16; MEMORY_WORDS], page: &mut [u8; PAGE_BYTES], w: Progress) -> Progress
-    requires fact_1 { Good (state w.processor memory.old) }
-    requires fact_2 { w.at + step_line_bytes ≤ page_bytes }
-    requires fact_3 { w.done < 99 }
-    ensures { Stepped w.done result.done (state w.processor memory.old) (state result.processor memory.new)
-        page.old w.at page.new result.at }
+    p: Processor,
+) -> Processor
+    requires good { Good (state p memory.old) }
+    requires room { length draft.old + step_line_bytes ≤ page_bytes }
+    requires two_digits { done < 99 }
+    ensures steps { state result memory.new ≡ step (state p memory.old) }
+    ensures line { draft.new ≡ draft.old ++ step_line (done + 1) p.pc (word p.pc (state p memory.old)) result.lac result.run }
 {
-    let p = w.processor;
     let i = machine_state::memory::load(memory, p.pc);
     let q = machine_run::step::step(memory, p, false);
-    let done = w.done + 1;
-    let end = put_step_line(page, w.at, done, p.pc, i, q.lac, q.run);
-    Progress {
-        processor: q,
-        done,
-        at: end,
-    }
+    put_step_line(draft, done + 1, p.pc, i, q.lac, q.run);
+    q
 }
 
-// The listing of the run from a loaded memory.
+// The listing of the run from a loaded memory. The steps done count the loop, and are told after it.
 pub fn put_run(memory: &mut [u16; MEMORY_WORDS], page: &mut [u8; PAGE_BYTES]) -> usize
     requires { Acceptable memory.old }
     ensures { Page (run_listing memory.old) page.old page.new result }
 {
-    let start = put_text(page, 0, b"step\tpc\ti\tlac\trun\n");
-    let mut w = Progress {
-        processor: Processor {
-            lac: 0,
-            pc: 0o200,
-            run: 1,
-            enable: 0,
-            request: 0,
-            switches: 0,
-        },
-        done: 0,
-        at: start,
+    let mut draft: Draft<PAGE_BYTES> = Draft::new();
+    draft.put_text(b"step\tpc\ti\tlac\trun\n");
+    let mut p = Processor {
+        lac: 0,
+        pc: 0o200,
+        run: 1,
+        enable: 0,
+        request: 0,
+        switches: 0,
     };
-    while w.done < BUDGET {
-        if w.processor.run == 0 {
+    let mut done = 0;
+    while done < BUDGET {
+        if p.run == 0 {
             break;
         }
-        w = put_step(memory, page, w);
+        p = put_step(memory, &mut draft, done, p);
+        done += 1;
     }
-    put_end_line(page, w.at, w.done, w.processor.run, true)
+    put_end_line(&mut draft, done, p.run, true);
+    draft.copy_to(page)
 }

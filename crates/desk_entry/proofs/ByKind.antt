@@ -23,22 +23,23 @@ use Rattle.desk_registers.specs.Registers.{desk_registers, desk_widths}
 use Rattle.desk_entry.specs.Octets.{input_bytes, octets_in, are_octets, is_input, Bytes}
 use Rattle.desk_entry.specs.Lines.{budget_digits, word_entry, register_entry, budget_entry, input_entry, said, entry}
 use Rattle.desk_entry.specs.declared.Entry.{Entry}
-use Rattle.desk_entry.specs.declared.Entry.TheVariants.{Word, Register, Budget, Input, Unfit}
+use Rattle.desk_entry.specs.declared.Entry.TheVariants.{Word, Register, Budget, Input}
+use Rattle.std.specs.Prelude.{Option, Some, None}
 
 -- a property of each kind of line of two fields, by what is known of them
-pub record Each (P : Entry → Type 0) (name value : List ℕ) : Type 0 where
-  pub word : is_octal_word name ≡ true → is_octal_word value ≡ true → P (Word (octal_word name) (octal_word value))
+pub record Each (P : Option Entry → Type 0) (name value : List ℕ) : Type 0 where
+  pub word : is_octal_word name ≡ true → is_octal_word value ≡ true → P (Some (Word (octal_word name) (octal_word value)))
   pub register :
       let place = find name desk_registers in
       let width = get_or desk_widths place 0 in
       let number = number_at 8 value 0 (digits_of width) 0 in
-      place < length desk_registers → is_digits Octal (digits_of width) value ≡ true → fits width number ≡ true → P (Register place number)
+      place < length desk_registers → is_digits Octal (digits_of width) value ≡ true → fits width number ≡ true → P (Some (Register place number))
   pub budget :
       let steps = number_at 10 value 0 (length value) 0 in
-      same name (ascii "budget") ≡ true → length value ≤ budget_digits → steps ≤ budget_limit → P (Budget steps)
-  pub input : same name (ascii "input") ≡ true → Bytes value (octets_in value) → P (Input (octets_in value))
+      same name (ascii "budget") ≡ true → length value ≤ budget_digits → steps ≤ budget_limit → P (Some (Budget steps))
+  pub input : same name (ascii "input") ≡ true → Bytes value (octets_in value) → P (Some (Input (octets_in value)))
 
-module _ (P : Entry → Type 0) (unfit : P Unfit) where
+module _ (P : Option Entry → Type 0) (unfit : P None) where
   by_word : (name value : List ℕ) → Each P name value → P (word_entry name value)
   unfolding word_entry
   by_word name value each =

@@ -11,7 +11,8 @@ use Rattle.text_fields.specs.Fields.{field, has_fields}
 use Rattle.characters.specs.Named.{find}
 use Rattle.desk_entry.specs.Octets.{are_octets, octets, is_input}
 use Rattle.desk_entry.specs.Lines.{word_entry, register_entry, budget_entry, input_entry, said, entry}
-use Rattle.desk_entry.specs.declared.Entry.TheVariants.{Word, Register, Budget, Input, Unfit}
+use Rattle.desk_entry.specs.declared.Entry.TheVariants.{Word, Register, Budget, Input}
+use Rattle.std.specs.Prelude.{Some, None}
 
 -- a byte more than n
 abbrev spaced : ℕ → List ℕ
@@ -39,25 +40,25 @@ fit_lines : map entry (
     ∷ ascii "input\t110 145 154"
     ∷ (ascii "input\t" ++ spaced 63)
     ∷ [])
-    ≡ Word 0o200 0o7300
-    ∷ Word 0o7777 0
-    ∷ Register 0 0o17777
-    ∷ Register 1 0o201
-    ∷ Register 2 0
-    ∷ Register 3 1
-    ∷ Register 4 1
-    ∷ Register 5 0o4000
-    ∷ Budget 1000000
-    ∷ Budget 0
-    ∷ Budget 16
-    ∷ Register 6 0o377
-    ∷ Register 7 1
-    ∷ Register 8 0
-    ∷ Register 9 0o101
-    ∷ Register 10 1
-    ∷ Input 1
-    ∷ Input 3
-    ∷ Input 64
+    ≡ Some (Word 0o200 0o7300)
+    ∷ Some (Word 0o7777 0)
+    ∷ Some (Register 0 0o17777)
+    ∷ Some (Register 1 0o201)
+    ∷ Some (Register 2 0)
+    ∷ Some (Register 3 1)
+    ∷ Some (Register 4 1)
+    ∷ Some (Register 5 0o4000)
+    ∷ Some (Budget 1000000)
+    ∷ Some (Budget 0)
+    ∷ Some (Budget 16)
+    ∷ Some (Register 6 0o377)
+    ∷ Some (Register 7 1)
+    ∷ Some (Register 8 0)
+    ∷ Some (Register 9 0o101)
+    ∷ Some (Register 10 1)
+    ∷ Some (Input 1)
+    ∷ Some (Input 3)
+    ∷ Some (Input 64)
     ∷ []
 unfolding run run_end same number_at field has_fields find are_octets is_input word_entry register_entry budget_entry input_entry said entry
 fit_lines = refl
@@ -97,7 +98,7 @@ unfit_lines : map entry (
     ∷ (ascii "input\t" ++ spaced 64)
     ∷ []
     ∷ [])
-    ≡ replicate 33 Unfit
+    ≡ replicate 33 None
 unfolding run run_end same number_at field has_fields find are_octets is_input word_entry register_entry budget_entry input_entry said entry
 unfit_lines = refl
 

@@ -22,25 +22,19 @@ use Rattle.laws.proofs.Tests.{by_test}
 use Rattle.desk_entry.specs.Lines.{entry, is_fit}
 use Rattle.desk_entry.specs.Sizes.{line_bytes}
 use Rattle.desk_entry.specs.declared.Entry.{Entry}
-use Rattle.desk_entry.specs.declared.Entry.TheVariants.{Word, Register, Budget, Input, Unfit}
+use Rattle.std.specs.Prelude.{Option, Some, None}
 use Rattle.desk_image.proofs.Digits.{digits_size}
 use Rattle.desk_image.proofs.WordLine.{two_fields}
 use Rattle.desk_entry.proofs.ByKind.{by_entry}
 
 -- an entry that is unfit unless n is at most m
-abbrev Within : ℕ → ℕ → Entry → Type 0
-Within n m (Word address word) = n ≤ m
-Within n m (Register place value) = n ≤ m
-Within n m (Budget steps) = n ≤ m
-Within n m (Input bytes) = n ≤ m
-Within n m Unfit = Unit {0}
+abbrev Within : ℕ → ℕ → Option Entry → Type 0
+Within n m (Some e) = n ≤ m
+Within n m None = Unit {0}
 
-beyond : (n m : ℕ) (e : Entry) → Within n m e → m < n → is_fit e ≡ false
-beyond n m (Word address word) w h = absurd (omega arith)
-beyond n m (Register place value) w h = absurd (omega arith)
-beyond n m (Budget steps) w h = absurd (omega arith)
-beyond n m (Input bytes) w h = absurd (omega arith)
-beyond n m Unfit w h = refl
+beyond : (n m : ℕ) (said : Option Entry) → Within n m said → m < n → is_fit said ≡ false
+beyond n m (Some e) w h = absurd (omega arith)
+beyond n m None w h = refl
 
 -- whether no name of a table has more than n bytes
 abbrev all_within : ℕ → List Named → Bool

@@ -1,7 +1,7 @@
 -- What a line of an inquiry says, its LF aside: a line of an image as for the day listing, one of the "optional lines for machine
 -- registers (name, TAB, octal) and `budget`, TAB, decimal", or, for a run with devices, one of a device register or of the input.
 -- Assumes nothing.
-use Rattle.std.specs.Prelude.{List, Bool, true, false, ◌&&◌, ℕ, length, get_or, leb, ltb}
+use Rattle.std.specs.Prelude.{List, Bool, true, false, ◌&&◌, ℕ, length, get_or, leb, ltb, Option, Some, None, is_some}
 use Rattle.word.specs.Word.{fits}
 use Rattle.state.specs.Limits.{budget_limit}
 use Rattle.machine_state.specs.Registers.{digits_of}
@@ -15,39 +15,39 @@ use Rattle.characters.specs.declared.Class.TheVariants.{Octal, Decimal}
 use Rattle.desk_registers.specs.Registers.{desk_registers, desk_widths}
 use Rattle.desk_entry.specs.Octets.{octets_in, is_input}
 use Rattle.desk_entry.specs.declared.Entry.{Entry}
-use Rattle.desk_entry.specs.declared.Entry.TheVariants.{Word, Register, Budget, Input, Unfit}
+use Rattle.desk_entry.specs.declared.Entry.TheVariants.{Word, Register, Budget, Input}
 
 -- "four-digit octal address, TAB, four-digit octal word"
-unfoldable pub word_entry : List ℕ → List ℕ → Entry
+unfoldable pub word_entry : List ℕ → List ℕ → Option Entry
 word_entry address word =
-    elim (is_octal_word address && is_octal_word word) [ true ↦ Word (octal_word address) (octal_word word) | false ↦ Unfit ]
+    elim (is_octal_word address && is_octal_word word) [ true ↦ Some (Word (octal_word address) (octal_word word)) | false ↦ None ]
 
 -- a register's value "in exactly as many octal digits as the output has for it, .. that fits the register's width"
-unfoldable pub register_entry : ℕ → ℕ → List ℕ → Entry
+unfoldable pub register_entry : ℕ → ℕ → List ℕ → Option Entry
 register_entry place width value =
     elim (is_digits Octal (digits_of width) value && fits width (number_at 8 value 0 (digits_of width) 0)) [
-      | true ↦ Register place (number_at 8 value 0 (digits_of width) 0)
-      | false ↦ Unfit
+      | true ↦ Some (Register place (number_at 8 value 0 (digits_of width) 0))
+      | false ↦ None
     ]
 
 abbrev pub budget_digits : ℕ
 budget_digits = 7
 
 -- "a decimal number of 1 to 7 digits, at most 1,000,000"
-unfoldable pub budget_entry : List ℕ → Entry
+unfoldable pub budget_entry : List ℕ → Option Entry
 budget_entry value =
     elim (ltb 0 (length value) && leb (length value) budget_digits && is_digits Decimal (length value) value
     && leb (number_at 10 value 0 (length value) 0) budget_limit) [
-      | true ↦ Budget (number_at 10 value 0 (length value) 0)
-      | false ↦ Unfit
+      | true ↦ Some (Budget (number_at 10 value 0 (length value) 0))
+      | false ↦ None
     ]
 
 -- "1 to 64 bytes in three octal digits each, parted by one space": how many
-unfoldable pub input_entry : List ℕ → Entry
-input_entry value = elim (is_input value) [ true ↦ Input (octets_in value) | false ↦ Unfit ]
+unfoldable pub input_entry : List ℕ → Option Entry
+input_entry value = elim (is_input value) [ true ↦ Some (Input (octets_in value)) | false ↦ None ]
 
 -- a line of two fields, by its first
-unfoldable pub said : List ℕ → List ℕ → Entry
+unfoldable pub said : List ℕ → List ℕ → Option Entry
 said name value =
     elim (same name (ascii "budget")) [
       | true ↦ budget_entry value
@@ -63,13 +63,9 @@ said name value =
     ]
 
 -- what a line says; "Any other line is unfit"
-unfoldable pub entry : List ℕ → Entry
-entry line = elim (has_fields 2 line) [ true ↦ said (field 0 line) (field 1 line) | false ↦ Unfit ]
+unfoldable pub entry : List ℕ → Option Entry
+entry line = elim (has_fields 2 line) [ true ↦ said (field 0 line) (field 1 line) | false ↦ None ]
 
 -- whether it is fit
-abbrev pub is_fit : Entry → Bool
-is_fit (Word address word) = true
-is_fit (Register place value) = true
-is_fit (Budget steps) = true
-is_fit (Input bytes) = true
-is_fit Unfit = false
+abbrev pub is_fit : Option Entry → Bool
+is_fit said = is_some said

@@ -7,7 +7,6 @@ ghost use Rattle.desk_entry.specs.Octets.{space, octet_at, is_octet, are_octets,
 ghost use Rattle.desk_entry.specs.Lines.{word_entry, register_entry, budget_entry, input_entry, said, entry};
 
 use characters::Class;
-use desk_registers::DESK_REGISTERS;
 use machine_state::registers;
 use state::BUDGET_LIMIT;
 
@@ -23,7 +22,7 @@ const BYTE_BITS: u64 = 8;
 
 const SPACE: u8 = 32;
 
-// What a line says.
+// What a fit line says.
 #[derive(Clone, Copy)]
 pub enum Entry {
     // address, word
@@ -33,11 +32,10 @@ pub enum Entry {
     Budget(u64),
     // how many bytes stand in the second field
     Input(usize),
-    Unfit,
 }
 
 // A line with a word of the memory.
-fn word_entry(address: &[u8], word: &[u8]) -> Entry
+fn word_entry(address: &[u8], word: &[u8]) -> Option<Entry>
     ensures { result ≡ word_entry address.now word.now }
 {
     if desk_image::is_digits(Class::Octal, 4, address)
@@ -45,14 +43,14 @@ fn word_entry(address: &[u8], word: &[u8]) -> Entry
     {
         let place = text_constants::digits_value(address, 0, 4, 8);
         let value = text_constants::digits_value(word, 0, 4, 8);
-        Entry::Word(place as usize, value as u16)
+        Some(Entry::Word(place as usize, value as u16))
     } else {
-        Entry::Unfit
+        None
     }
 }
 
 // A line with a register.
-fn register_entry(place: usize, value: &[u8]) -> Entry
+fn register_entry(place: usize, value: &[u8]) -> Option<Entry>
     requires { place < length desk_registers }
     ensures { result ≡ register_entry place (get_or desk_widths place 0) value.now }
 {
@@ -62,34 +60,33 @@ fn register_entry(place: usize, value: &[u8]) -> Entry
     if desk_image::is_digits(Class::Octal, n, value) {
         let v = text_constants::digits_value(value, 0, n, 8);
         if word::is_narrow(width, v) {
-            return Entry::Register(place, v as u16);
+            return Some(Entry::Register(place, v as u16));
         }
     }
-    Entry::Unfit
+    None
 }
 
 // A line with the budget.
-fn budget_entry(value: &[u8]) -> Entry
+fn budget_entry(value: &[u8]) -> Option<Entry>
     ensures { result ≡ budget_entry value.now }
 {
     let n = value.len();
     if (0 < n) & (n <= BUDGET_DIGITS) & desk_image::is_digits(Class::Decimal, n, value) {
         let steps = text_constants::digits_value(value, 0, n, 10);
         if steps <= BUDGET_LIMIT {
-            return Entry::Budget(steps);
+            return Some(Entry::Budget(steps));
         }
     }
-    Entry::Unfit
+    None
 }
 
 // Whether a space stands at a place, or nothing any more.
 fn is_parted(value: &[u8], at: usize) -> bool
     ensures { result ≡ eqb (get_or value.now at space) space }
 {
-    if at < value.len() {
-        value[at] == SPACE
-    } else {
-        true
+    match value.get(at) {
+        Some(b) => *b == SPACE,
+        None => true,
     }
 }
 
@@ -109,29 +106,27 @@ fn are_octets(value: &[u8], n: usize) -> bool
     ensures { result ≡ are_octets value.now n }
 {
     let mut fit = true;
-    let mut k = 0;
-    while k < n {
-        fit = fit & is_octet(value, 4 * k);
-        k += 1;
+    for k in 0..n {
+        fit &= is_octet(value, 4 * k);
     }
     fit
 }
 
 // A line with the input.
-fn input_entry(value: &[u8]) -> Entry
+fn input_entry(value: &[u8]) -> Option<Entry>
     ensures { result ≡ input_entry value.now }
 {
     let n = (value.len() + 1) / 4;
     if (4 * n == value.len() + 1) & (n <= INPUT_BYTES) {
         if are_octets(value, n) {
-            return Entry::Input(n);
+            return Some(Entry::Input(n));
         }
     }
-    Entry::Unfit
+    None
 }
 
 // A line of two fields, by its first.
-fn two_fields(name: &[u8], value: &[u8]) -> Entry
+fn two_fields(name: &[u8], value: &[u8]) -> Option<Entry>
     ensures { result ≡ said name.now value.now }
 {
     if characters::is_same(name, b"budget") {
@@ -140,15 +135,14 @@ fn two_fields(name: &[u8], value: &[u8]) -> Entry
     if characters::is_same(name, b"input") {
         return input_entry(value);
     }
-    let place = desk_registers::place_of(name);
-    if place < DESK_REGISTERS {
-        return register_entry(place, value);
+    match desk_registers::place_of(name) {
+        Some(place) => register_entry(place, value),
+        None => word_entry(name, value),
     }
-    word_entry(name, value)
 }
 
 // What a line says, its LF aside.
-pub fn entry_of(line: &[u8]) -> Entry
+pub fn entry_of(line: &[u8]) -> Option<Entry>
     ensures { result ≡ entry line.now }
 {
     if text_fields::has_fields(line, 2) {
@@ -157,14 +151,14 @@ pub fn entry_of(line: &[u8]) -> Entry
             text_fields::field_of(line, 1),
         )
     } else {
-        Entry::Unfit
+        None
     }
 }
 
 // The byte at a place of a field.
 fn octet_at(value: &[u8], at: usize) -> u8
-    requires fact_1 { at + 3 ≤ length value.now }
-    requires fact_2 { is_octet value.now at ≡ true }
+    requires whole { at + 3 ≤ length value.now }
+    requires octet { is_octet value.now at ≡ true }
     ensures { result ≡ octet_at value.now at }
 {
     text_constants::digits_value(value, at, 3, 8) as u8
@@ -176,10 +170,8 @@ pub fn bytes_of(value: &[u8], n: usize) -> [u8; INPUT_BYTES]
     ensures { take n result ≡ octets value.now n }
 {
     let mut bytes = [0u8; INPUT_BYTES];
-    let mut k = 0;
-    while k < n {
+    for k in 0..n {
         bytes[k] = octet_at(value, 4 * k);
-        k += 1;
     }
     bytes
 }

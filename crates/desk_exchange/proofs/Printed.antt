@@ -10,11 +10,10 @@ use lib.Dec.{eqb}
 use lib.ListN.{length, get_or, take, length-append}
 use lib.Seq.{take-suc}
 use borrow.Author.Tests.{ne_eqb}
-use Rattle.word.specs.Choice.{pick}
 use Rattle.characters.specs.Ascii.{ascii, line_feed}
 use Rattle.page.specs.Text.{octal, decimal_in, decimal}
 use Rattle.page.proofs.Numbers.{octal_length, decimal_length}
-use Rattle.desk_exchange.specs.Exchange.{read_line, space, octet, octets_from, printed_line, exchange_lines}
+use Rattle.desk_exchange.specs.Exchange.{read_line, octet, octets_from, printed_line, exchange_lines}
 use Rattle.desk_exchange.specs.Sizes.{read_line_bytes, octet_bytes, printed_line_bytes}
 
 -- ---- one byte more
@@ -43,6 +42,11 @@ octets_more l k h =
     ∙ ap (octets_from true) (take-suc l k 0 h)
     ∙ octets_snoc true (take k l) (get_or l k 0)
     ∙ ap (λ (t : Bool). octets_from true (take k l) ++ octet t (get_or l k 0)) (first_taken l k h)
+
+-- the line by its parts
+pub printed_lem : (l : List ℕ) → printed_line l ≡ ascii "printed\t" ++ (octets_from true l ++ line_feed ∷ [])
+unfolding printed_line
+printed_lem l = append_assoc (ascii "printed\t") (octets_from true l) (line_feed ∷ [])
 
 -- ---- sizes
 

@@ -1,51 +1,45 @@
 // The lines of what a run with devices read and printed.
 #![tactic(auto)]
 
-ghost use Rattle.std.specs.Prelude.{◌+◌, ◌*◌, ◌≤◌, eqb, length, take};
-ghost use Rattle.page.specs.Written.{Written};
+ghost use Rattle.std.specs.Prelude.{◌≡◌, ◌+◌, ◌*◌, ◌≤◌, ◌++◌, length};
 ghost use Rattle.desk_exchange.specs.Exchange.{octet, printed_line, exchange_lines};
 ghost use Rattle.desk_exchange.specs.Sizes.{octet_bytes, printed_line_bytes, read_line_bytes};
 
 use characters::LINE_FEED;
-use page::{put_byte, put_decimal, put_octal, put_text};
+use page::Draft;
 
-const SPACE: u8 = 32;
+const SPACE: u8 = b' ';
 
 // A byte in three octal digits, behind a space unless it is the first.
-fn put_octet(page: &mut [u8], at: usize, k: usize, b: u8) -> usize
-    requires { at + octet_bytes ≤ length page.old }
-    ensures { Written (octet (eqb k 0) b) page.old at page.new result }
+fn put_octet<const N: usize>(draft: &mut Draft<N>, first: bool, b: u8)
+    requires { length draft.old + octet_bytes ≤ N }
+    ensures { draft.new ≡ draft.old ++ octet first b }
 {
-    if k == 0 {
-        return put_octal(page, at, 3, b as u64);
+    if !first {
+        draft.put_byte(SPACE);
     }
-    let start = put_byte(page, at, SPACE);
-    put_octal(page, start, 3, b as u64)
+    draft.put_octal(3, b as u64);
 }
 
-// The line of the first n bytes of the output.
-fn put_printed(page: &mut [u8], at: usize, output: &[u8], n: usize) -> usize
-    requires fact_1 { n ≤ length output.now }
-    requires fact_2 { at + printed_line_bytes + octet_bytes * n ≤ length page.old }
-    ensures { Written (printed_line (take n output.now)) page.old at page.new result }
+// The line of the bytes printed.
+fn put_printed<const N: usize>(draft: &mut Draft<N>, printed: &[u8])
+    requires { length draft.old + printed_line_bytes + octet_bytes * length printed.now ≤ N }
+    ensures { draft.new ≡ draft.old ++ printed_line printed.now }
 {
-    let mut end = put_text(page, at, b"printed\t");
-    let mut k = 0;
-    while k < n {
-        end = put_octet(page, end, k, output[k]);
-        k += 1;
+    draft.put_text(b"printed\t");
+    for (k, b) in printed.iter().enumerate() {
+        put_octet(draft, k == 0, *b);
     }
-    put_byte(page, end, LINE_FEED)
+    draft.put_byte(LINE_FEED);
 }
 
-// How many bytes of the input arrived, and the first `printed` bytes of the output.
-pub fn put_exchange(page: &mut [u8], at: usize, read: usize, output: &[u8], printed: usize) -> usize
-    requires fact_1 { printed ≤ length output.now }
-    requires fact_2 { at + read_line_bytes + printed_line_bytes + octet_bytes * printed ≤ length page.old }
-    ensures { Written (exchange_lines read (take printed output.now)) page.old at page.new result }
+// How many bytes of the input arrived, and the bytes printed.
+pub fn put_exchange<const N: usize>(draft: &mut Draft<N>, read: usize, printed: &[u8])
+    requires { length draft.old + read_line_bytes + printed_line_bytes + octet_bytes * length printed.now ≤ N }
+    ensures { draft.new ≡ draft.old ++ exchange_lines read printed.now }
 {
-    let count = put_text(page, at, b"read\t");
-    let end = put_decimal(page, count, read as u64);
-    let line = put_byte(page, end, LINE_FEED);
-    put_printed(page, line, output, printed)
+    draft.put_text(b"read\t");
+    draft.put_decimal(read as u64);
+    draft.put_byte(LINE_FEED);
+    put_printed(draft, printed);
 }

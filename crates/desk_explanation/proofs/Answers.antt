@@ -17,8 +17,8 @@ use Rattle.state.specs.Limits.{row_places}
 use Rattle.state.specs.Refusals.{number_of}
 use Rattle.state.specs.declared.Reason.{Reason}
 use Rattle.state.specs.declared.Refusal.{Refusal}
-use Rattle.state.specs.declared.Verdict.{Verdict}
-use Rattle.state.specs.declared.Verdict.TheVariants.{Fit, Unfit}
+use Rattle.state.specs.Refusals.{Verdict}
+use Rattle.std.specs.Prelude.{Ok, Err}
 use Rattle.state.proofs.Accepted.{state_sound, sound_state}
 use Rattle.state.proofs.Numbers.{numbered}
 use Rattle.devices.specs.declared.Devices.{Devices}
@@ -33,12 +33,12 @@ use Rattle.machine_console.specs.Console as consoles
 use Rattle.machine_console.specs.Console.{Console, console, turn}
 use Rattle.emulator.specs.Emulate as emulator
 use Rattle.emulator.specs.Emulate.{emulate, emulate_devices}
-use Rattle.emulator.specs.declared.Answer.{Answer}
+use Rattle.std.specs.declared.result.Result.{Result}
+use Rattle.emulator.specs.declared.Ended as emulated
 use Rattle.emulator.specs.declared.DeviceAnswer.{DeviceAnswer}
-use Rattle.emulator.specs.declared.Answer.TheVariants as emulated
 use Rattle.evaluator.specs.Evaluate as evaluator
-use Rattle.evaluator.specs.declared.Outcome.{Outcome}
-use Rattle.evaluator.specs.declared.Outcome.TheVariants.{Ran, Unread, Refused}
+use Rattle.evaluator.specs.Evaluate.{Outcome}
+use Rattle.evaluator.specs.declared.Refusal.TheVariants.{Text, State as Unfit}
 use Rattle.rows_cycles.specs.Cycle.{Cycle}
 use Rattle.shipped_rows.specs.Variant.{registers_of, values_of}
 use Rattle.shipped.specs.Claim.{emulation, evaluation, by_cycles}
@@ -58,7 +58,7 @@ pub record Told (d : Bool) (m : Machine) (c : Devices) (memory : List ℕ) (budg
   pub is : answered d m c memory budget input ≡ told d a pc before places (take listed rows)
 
 -- the emulator refuses what the check finds unfit
-unfit_refuses : (d : Bool) (m : Machine) (c : Devices) (memory : List ℕ) (budget : ℕ) (input : List ℕ) (w : Refusal) → check_of d m c memory budget ≡ Unfit w
+unfit_refuses : (d : Bool) (m : Machine) (c : Devices) (memory : List ℕ) (budget : ℕ) (input : List ℕ) (w : Refusal) → check_of d m c memory budget ≡ Err w
     → (emulation (variant_of d) m c memory budget input paper).report.number ≡ number_of w
 unfolding emulate emulate_devices
 unfit_refuses false m c memory budget input w e =
@@ -116,7 +116,7 @@ module _ (d : Bool) (m : Machine) (c : Devices) (memory : List ℕ) (budget : �
   checked v e = ap (λ (u : Verdict). checked_by u (explained d m c memory budget input)) e
 
   -- what passes passes with a smaller budget
-  fewer_fits : (n : ℕ) → n ≤ budget → check_of d m c memory budget ≡ Fit → check_of d m c memory n ≡ Fit
+  fewer_fits : (n : ℕ) → n ≤ budget → check_of d m c memory budget ≡ Ok tt → check_of d m c memory n ≡ Ok tt
   fewer_fits n h e =
       let widths = map (λ (r : Named). r.number) (registers_of (variant_of d)) in
       let values = values_of (variant_of d) m c in
@@ -137,17 +137,17 @@ module _ (d : Bool) (m : Machine) (c : Devices) (memory : List ℕ) (budget : �
     refused_is a h p = go (check_of d m c memory budget) refl
       where
         go : (v : Verdict) → check_of d m c memory budget ≡ v → answered d m c memory budget input ≡ []
-        go Fit e =
+        go (Ok fit) e =
             let claim = checked_claim d m c memory budget e list input paper room in
             absurd (h (ap (λ (r : emulator.DeviceReport). r.report.number) (p ∙ claim.emulated) ∙ no_refusal d m c memory budget input))
-        go (Unfit w) e = checked (Unfit w) e
+        go (Err w) e = checked (Err w) e
 
     module _ (bytes : Bytes input) (a : emulator.DeviceReport) (x : emulator.Report) (b : evaluator.Report)
         (p : a ≡ emulation (variant_of d) m c memory budget input paper)
         (o : x ≡ (emulation (variant_of d) m c memory (a.report.steps - 1) input paper).report)
         (q : b ≡ (evaluation (variant_of d) (places_of d m c) memory budget list input paper).report) where
       -- the answers of both engines, and of the emulator at one step fewer, where the check finds the state fit
-      fit_told : check_of d m c memory budget ≡ Fit → Told d m c memory budget input a x.machine.pc x.memory b.registers b.listed b.list
+      fit_told : check_of d m c memory budget ≡ Ok tt → Told d m c memory budget input a x.machine.pc x.memory b.registers b.listed b.list
       fit_told e =
           let claim = checked_claim d m c memory budget e list input paper room in
           let r : emulator.DeviceReport = ran_of d m c memory budget input in
@@ -174,7 +174,7 @@ module _ (d : Bool) (m : Machine) (c : Devices) (memory : List ℕ) (budget : �
             last =
                 subst (λ (y : emulator.Report). LastStep y.machine.pc y.memory a.report.memory) (sym before)
                 (subst (λ (y : emulator.DeviceReport). LastStep early.machine.pc early.memory y.report.memory) (sym same) (last_holds d m c memory budget input bytes e));
-            is = checked Fit e ∙ explained_is
+            is = checked (Ok tt) e ∙ explained_is
                 ∙ sym (ap (λ (y : emulator.DeviceReport). told d y x.machine.pc x.memory b.registers (take b.listed b.list)) same
                 ∙ ap (λ (y : emulator.Report). told d r y.machine.pc y.memory b.registers (take b.listed b.list)) before
                 ∙ ap (λ (l : List ℕ). told d r early.machine.pc early.memory l (take b.listed b.list)) registers
@@ -186,8 +186,8 @@ module _ (d : Bool) (m : Machine) (c : Devices) (memory : List ℕ) (budget : �
       ran_is none = go (check_of d m c memory budget) refl
         where
           go : (v : Verdict) → check_of d m c memory budget ≡ v → Told d m c memory budget input a x.machine.pc x.memory b.registers b.listed b.list
-          go Fit e = fit_told e
-          go (Unfit w) e =
+          go (Ok fit) e = fit_told e
+          go (Err w) e =
               absurd (numbered w (sym (unfit_refuses d m c memory budget input w e) ∙ sym (ap (λ (y : emulator.DeviceReport). y.report.number) p) ∙ none))
 
   -- the same in the terms of the evaluator's own answer, and of the emulator's at one step fewer
@@ -195,15 +195,15 @@ module _ (d : Bool) (m : Machine) (c : Devices) (memory : List ℕ) (budget : �
       → Told d m c memory budget input a pc before
       (evaluator.outcome_of o places second rows).registers (evaluator.outcome_of o places second rows).listed (evaluator.outcome_of o places second rows).list
       → Told d m c memory budget input a pc before places (listed_in o) rows
-  by_outcome a pc before (Ran why n k) places second rows t = t
-  by_outcome a pc before (Unread fault line) places second rows t = t
-  by_outcome a pc before (Refused why) places second rows t = t
+  by_outcome a pc before (Ok end) places second rows t = t
+  by_outcome a pc before (Err (Text why)) places second rows t = t
+  by_outcome a pc before (Err (Unfit why)) places second rows t = t
 
-  by_answer : (a : emulator.DeviceReport) (e : Answer) (before places : List ℕ) (listed : ℕ) (rows : List ℕ)
+  by_answer : (a : emulator.DeviceReport) (e : Result emulated.Ended Refusal) (before places : List ℕ) (listed : ℕ) (rows : List ℕ)
       → Told d m c memory budget input a (emulator.report m e before).machine.pc (emulator.report m e before).memory places listed rows
       → Told d m c memory budget input a (pc_in m e) before places listed rows
-  by_answer a (emulated.Ran x why n) before places listed rows t = t
-  by_answer a (emulated.Refused why) before places listed rows t = t
+  by_answer a (Ok end) before places listed rows t = t
+  by_answer a (Err why) before places listed rows t = t
 
   -- number and reason are not told
   by_ending : (e : Ending) (why : Reason) (mem out : List ℕ) (pc : ℕ) (before places : List ℕ) (listed : ℕ) (rows : List ℕ)
@@ -218,23 +218,23 @@ module _ (d : Bool) (m : Machine) (c : Devices) (memory : List ℕ) (budget : �
 module _ (d : Bool) (m : Machine) (c : Devices) (memory : List ℕ) (budget : ℕ) (input list : List ℕ) (room : row_places ≤ length list) (r : DeviceAnswer) (mem out : List ℕ)
     (p : emulator.device_report m r mem out ≡ emulation (variant_of d) m c memory budget input paper) where
   -- with an answer put in
-  abbrev with : Answer → emulator.DeviceReport
+  abbrev with : Result emulated.Ended Refusal → emulator.DeviceReport
   with y = record { report = emulator.report m y mem; devices = r.devices; exchange = record { read = r.read; printed = r.printed; output = out } }
 
-  abbrev ending : Machine → ℕ → Ending
-  ending after steps = record { steps = steps; machine = after; devices = r.devices; read = r.read; printed = r.printed }
+  abbrev ending : emulated.Ended → Ending
+  ending end = record { steps = end.steps; machine = end.machine; devices = r.devices; read = r.read; printed = r.printed }
 
-  pub refused_by : (why : Refusal) → r.answer ≡ emulated.Refused why → answered d m c memory budget input ≡ []
-  refused_by why q = refused_is d m c memory budget input list room (with (emulated.Refused why)) (numbered why) (sym (ap with q) ∙ p)
+  pub refused_by : (why : Refusal) → r.answer ≡ Err why → answered d m c memory budget input ≡ []
+  refused_by why q = refused_is d m c memory budget input list room (with (Err why)) (numbered why) (sym (ap with q) ∙ p)
 
-  pub ran_by : Bytes input → (after : Machine) (why : Reason) (steps : ℕ) (o : Outcome) (places second rows : List ℕ) (a : Answer) (before : List ℕ)
-      → r.answer ≡ emulated.Ran after why steps
+  pub ran_by : Bytes input → (end : emulated.Ended) (o : Outcome) (places second rows : List ℕ) (a : Result emulated.Ended Refusal) (before : List ℕ)
+      → r.answer ≡ Ok end
       → evaluator.outcome_of o places second rows ≡ (evaluation (variant_of d) (places_of d m c) memory budget list input paper).report
-      → emulator.report m a before ≡ (emulation (variant_of d) m c memory (steps - 1) input paper).report
-      → Told d m c memory budget input (ended_by (ending after steps) mem out) (pc_in m a) before places (listed_in o) rows
-  ran_by bytes after why steps o places second rows a before q s x =
-      let ran = with (emulated.Ran after why steps) in
-      by_ending d m c memory budget input (ending after steps) why mem out (pc_in m a) before places (listed_in o) rows
+      → emulator.report m a before ≡ (emulation (variant_of d) m c memory (end.steps - 1) input paper).report
+      → Told d m c memory budget input (ended_by (ending end) mem out) (pc_in m a) before places (listed_in o) rows
+  ran_by bytes end o places second rows a before q s x =
+      let ran = with (Ok end) in
+      by_ending d m c memory budget input (ending end) end.reason mem out (pc_in m a) before places (listed_in o) rows
       (by_outcome d m c memory budget input ran (pc_in m a) before o places second rows
       (by_answer d m c memory budget input ran a before _ _ _
       (ran_is d m c memory budget input list room bytes ran (emulator.report m a before) (evaluator.outcome_of o places second rows) (sym (ap with q) ∙ p) x s refl)))

@@ -8,6 +8,7 @@ use Prim.Native.Nat.{ℕ, zero, suc, ◌/◌, ◌%◌}
 use native.Mathlib.Omega.{arith}
 use lib.Dec.{ltb}
 use borrow.Author.Tests.{ne_eqb}
+use Rattle.std.specs.Prelude.{Option, None}
 use Rattle.laws.proofs.Tests.{by_test}
 use Rattle.word.specs.Choice.{on}
 use Rattle.state.specs.Refusals.{reason_of}
@@ -115,7 +116,7 @@ last_one (a ∷ b ∷ ls) l = last_one (b ∷ ls) l
 
 -- ---- a text all of whose lines are an image's
 
-module _ (text : List ℕ) (fit : first_unfit is_word_line 1 (lines text) ≡ 0) where
+module _ (text : List ℕ) (fit : first_unfit is_word_line 1 (lines text) ≡ None) where
   abbrev memory : List ℕ
   memory = loaded text
 
@@ -132,7 +133,7 @@ module _ (text : List ℕ) (fit : first_unfit is_word_line 1 (lines text) ≡ 0)
 
   listed : day_listing text ≡ above ++ ends
   unfolding day_listing run_listing
-  listed = ap (λ (n : ℕ). or_refused n (run_listing memory)) fit
+  listed = ap (λ (unfit : Option ℕ). or_refused unfit (run_listing memory)) fit
 
   listed_last : last_of (lines (day_listing text)) ≡ end
   unfolding lines
@@ -143,7 +144,7 @@ module _ (text : List ℕ) (fit : first_unfit is_word_line 1 (lines text) ≡ 0)
 
   explains : explanation text ≡ explained ready.devices (machine_of ready.registers) (devices_in ready.registers) memory ready.budget ready.input
   unfolding explanation
-  explains = let asks = image_asks text fit in ap (λ (n : ℕ). or_refused n (answer_to (asked text))) asks.fits ∙ ap answer_to asks.asks
+  explains = let asks = image_asks text fit in ap (λ (unfit : Option ℕ). or_refused unfit (answer_to (asked text))) asks.fits ∙ ap answer_to asks.asks
 
   explained_first : first_of (lines (explanation text)) ≡ end
   unfolding ready

@@ -1,12 +1,12 @@
 -- The last step of a run, with devices or without: it begins where a run of one step fewer ends, at an address of memory, and changes few words.
 -- Assumes nothing.
-use mathlib.Core.Path.{◌≡◌, refl, sym, ap, ◌∙◌, subst}
+use mathlib.Core.Path.{◌≡◌, refl, sym, ◌∙◌, subst}
 use mathlib.Core.Bool.{Bool, true, false}
-use mathlib.Core.List.{List, []}
+use mathlib.Core.List.{List}
 use Prim.Native.Nat.{ℕ, zero, suc, ◌-◌, ◌≤◌}
 use native.Mathlib.Omega.{arith}
 use lib.ListN.{length}
-use Rattle.state.specs.declared.Verdict.TheVariants.{Fit}
+use Rattle.std.specs.Prelude.{Ok}
 use Rattle.runs.specs.Run as runs
 use Rattle.runs.specs.Run.{Ended, run_from}
 use Rattle.runs.proofs.Counts.{steps_within, last_step, no_step}
@@ -65,7 +65,7 @@ between : (before after : State) → Good before → Good after → length (chan
 between before after b a few =
     record { inside = omega (arith, b.pc, b.memory.size); whole = a.memory.size ∙ sym b.memory.size; few = few }
 
-pub last_holds : (d : Bool) (m : Machine) (c : Devices) (memory : List ℕ) (budget : ℕ) (input : List ℕ) → Bytes input → check_of d m c memory budget ≡ Fit →
+pub last_holds : (d : Bool) (m : Machine) (c : Devices) (memory : List ℕ) (budget : ℕ) (input : List ℕ) → Bytes input → check_of d m c memory budget ≡ Ok tt →
     let r = (ran_of d m c memory budget input).report in
     let before = before_last d m c memory r.steps input in
     LastStep before.machine.pc before.memory r.memory

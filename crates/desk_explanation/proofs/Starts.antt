@@ -1,6 +1,6 @@
 -- What passes the check is a start of the claim, with devices or without: the registers that are asked for, and 0 in the working registers.
 -- Assumes nothing.
-use mathlib.Core.Path.{◌≡◌, refl, sym, ap, ◌∙◌, subst}
+use mathlib.Core.Path.{◌≡◌, refl, sym, subst}
 use mathlib.Core.Bool.{Bool, true, false}
 use mathlib.Core.List.{List, [], ◌∷◌, ◌++◌, map}
 use Prim.Native.Nat.{ℕ, zero, suc, ◌-◌, ◌^◌, ◌≤◌, ◌<◌}
@@ -10,7 +10,7 @@ use lib.Pow.{pow_pos}
 use Rattle.characters.specs.Named.{Named}
 use Rattle.state.specs.Limits.{budget_limit, row_places}
 use Rattle.state.specs.Acceptable.{Acceptable, Fitting}
-use Rattle.state.specs.declared.Verdict.TheVariants.{Fit}
+use Rattle.std.specs.Prelude.{Ok}
 use Rattle.state.proofs.Accepted.{state_sound, zeros}
 use Rattle.devices.specs.declared.Devices.{Devices}
 use Rattle.devices.specs.Devices.{DevicesFit}
@@ -20,7 +20,6 @@ use Rattle.text_limits.specs.Limits.{most_registers}
 use Rattle.text_declaration.specs.Rows.{Description}
 use Rattle.evaluator.specs.Evaluate.{widths_of}
 use Rattle.shipped_rows.specs.Variant.{registers_of, values_of}
-use Rattle.shipped_rows.specs.Shipped.{shipped}
 use Rattle.shipped_rows.proofs.Accepted.{shipped_is}
 use Rattle.shipped_rows.proofs.Places.{as_many}
 use Rattle.shipped_rows.proofs.Tree.{working_registers}
@@ -52,7 +51,7 @@ all_places_lem : (d : Bool) (m : Machine) (c : Devices) → length (places_of d 
 all_places_lem true m c = refl
 all_places_lem false m c = refl
 
-module _ (d : Bool) (m : Machine) (c : Devices) (memory : List ℕ) (budget : ℕ) (fit : check_of d m c memory budget ≡ Fit) where
+module _ (d : Bool) (m : Machine) (c : Devices) (memory : List ℕ) (budget : ℕ) (fit : check_of d m c memory budget ≡ Ok tt) where
   abbrev names : List Named
   names = registers_of (variant_of d)
 
@@ -85,7 +84,7 @@ module _ (d : Bool) (m : Machine) (c : Devices) (memory : List ℕ) (budget : �
   checked_claim list input output room = runs_agree (variant_of d) m c (places_of d m c) memory budget list input output (checked_start list room)
 
 -- with devices, theirs fit
-pub checked_devices : (m : Machine) (c : Devices) (memory : List ℕ) (budget : ℕ) → check_of true m c memory budget ≡ Fit → DevicesFit c
+pub checked_devices : (m : Machine) (c : Devices) (memory : List ℕ) (budget : ℕ) → check_of true m c memory budget ≡ Ok tt → DevicesFit c
 checked_devices m c memory budget fit =
     let narrow = (sound true m c memory budget fit).1.narrow in
     record { key = narrow 6; keyboard = narrow 7; printer = narrow 8; print = narrow 9; mark = narrow 10 }

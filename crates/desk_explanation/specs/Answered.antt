@@ -1,20 +1,19 @@
 -- What the code holds on its way to an explanation: the explanation of what a scanner keeps when the input ends, and what is taken from the engines' answers. A reader
 -- need not believe these definitions: the law `scan_explanation_lem` says that after a text they come to the text's explanation.
 -- Assumes nothing.
-use Rattle.std.specs.Prelude.{◌≡◌, Bool, List, [], map, ℕ, ◌<◌, ◌≤◌, length}
+use Rattle.std.specs.Prelude.{◌≡◌, Bool, List, [], map, ℕ, ◌<◌, ◌≤◌, length, Ok, Err}
+use Rattle.std.specs.declared.result.Result.{Result}
 use Rattle.characters.specs.Named.{Named}
 use Rattle.state.specs.Checks.{check_state}
-use Rattle.state.specs.declared.Verdict.{Verdict}
-use Rattle.state.specs.declared.Verdict.TheVariants.{Fit, Unfit}
+use Rattle.state.specs.Refusals.{Verdict}
+use Rattle.state.specs.declared.Refusal.{Refusal}
 use Rattle.devices.specs.declared.Devices.{Devices}
 use Rattle.machine_state.specs.declared.Machine.{Machine}
 use Rattle.machine_state.specs.Registers.{machine_of}
 use Rattle.emulator.specs.Emulate.{DeviceReport}
-use Rattle.emulator.specs.declared.Answer as emulator
-use Rattle.emulator.specs.declared.Answer.TheVariants as emulated
+use Rattle.emulator.specs.declared.Ended as emulator
 use Rattle.desk_last_lines.specs.LastLines.{or_refused}
-use Rattle.evaluator.specs.declared.Outcome.{Outcome}
-use Rattle.evaluator.specs.declared.Outcome.TheVariants.{Ran, Unread, Refused}
+use Rattle.evaluator.specs.Evaluate.{Outcome}
 use Rattle.shipped_rows.specs.Variant.{registers_of, values_of}
 use Rattle.desk_image.specs.Scan.{Scan, unfit_line}
 use Rattle.desk_inquiry.specs.Input.{Inquiry}
@@ -26,8 +25,8 @@ use Rattle.desk_explanation.specs.declared.Ending.{Ending}
 
 -- the output by a state check's verdict. No text leaves another state than a fit one; another has no run, and nothing is printed.
 abbrev pub checked_by : Verdict → List ℕ → List ℕ
-checked_by Fit text = text
-checked_by (Unfit why) text = []
+checked_by (Ok fit) text = text
+checked_by (Err why) text = []
 
 -- the check of a start, with devices or without
 abbrev pub check_of : Bool → Machine → Devices → List ℕ → ℕ → Verdict
@@ -53,15 +52,14 @@ ended_by e memory output =
     }
 
 -- PC in an answer of the emulator
-abbrev pub pc_in : Machine → emulator.Answer → ℕ
-pc_in m (emulated.Ran after why steps) = after.pc
-pc_in m (emulated.Refused why) = m.pc
+abbrev pub pc_in : Machine → Result emulator.Ended Refusal → ℕ
+pc_in m (Ok end) = end.machine.pc
+pc_in m (Err why) = m.pc
 
 -- how many rows an outcome of the evaluator lists: "A refusal reports .. 0 rows"
 abbrev pub listed_in : Outcome → ℕ
-listed_in (Ran why steps rows) = rows
-listed_in (Unread fault line) = 0
-listed_in (Refused why) = 0
+listed_in (Ok end) = end.listed
+listed_in (Err why) = 0
 
 -- what holds of PC and memory before a step and of memory after it: the address is one of memory, and the lines of the changed words are few
 pub record LastStep (pc : ℕ) (before after : List ℕ) : Type 0 where

@@ -5,7 +5,6 @@ use Rattle.std.specs.Prelude.{Bool, not, ◌||◌, List, [], ◌++◌, ℕ, ◌-
 use Rattle.word.specs.Choice.{pick}
 use Rattle.devices.specs.declared.Devices.{Devices}
 use Rattle.devices.specs.Devices.{devices_of}
-use Rattle.devices.specs.Session.{Exchange}
 use Rattle.machine_state.specs.declared.Machine.{Machine}
 use Rattle.machine_state.specs.Registers.{machine_registers, machine_of}
 use Rattle.state.specs.Refusals.{reason_with}

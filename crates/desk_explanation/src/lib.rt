@@ -1,13 +1,11 @@
 // The explanation of a run: what an inquiry asks for is run by emulator and evaluator, and the text of how it ended is written.
 #![tactic(auto)]
 
-ghost use Rattle.std.specs.Prelude.{◌≡◌, ◌+◌, ◌*◌, ◌-◌, ◌≤◌, length, take};
+ghost use Rattle.std.specs.Prelude.{◌≡◌, ◌+◌, ◌*◌, ◌-◌, ◌≤◌, ◌++◌, length, take};
 ghost use Rattle.machine_state.specs.Registers.{machine_of};
 ghost use Rattle.page.specs.Page.{Page};
-ghost use Rattle.page.specs.Written.{Written};
 ghost use Rattle.emulator.specs.Emulate as emulator;
-ghost use Rattle.evaluator.specs.Evaluate as evaluator;
-ghost use Rattle.shipped.specs.Claim.{emulation, evaluation};
+ghost use Rattle.shipped.specs.Claim.{emulation};
 ghost use Rattle.desk_inquiry.specs.Scan.{kept};
 ghost use Rattle.desk_exchange.specs.Sizes.{read_line_bytes, printed_line_bytes, octet_bytes};
 ghost use Rattle.desk_run_lines.specs.Registers.{variant_of};
@@ -19,10 +17,10 @@ use desk_inquiry::Scanner;
 use desk_registers::DESK_REGISTERS;
 use desk_run_lines::{PAGE_BYTES, registers, rows};
 use devices::Devices;
-use evaluator::Outcome;
 use machine_state::Machine;
+use page::Draft;
 use rows_store::Registers;
-use state::{MEMORY_WORDS, ROW_PLACES};
+use state::{MEMORY_WORDS, ROW_PLACES, Refusal};
 use text_limits::MOST_REGISTERS;
 
 // The places of the paper.
@@ -50,77 +48,14 @@ fn places_of(devices: bool, m: Machine, c: Devices) -> Registers
     Registers { values }
 }
 
-// Runs the emulator, with devices or without.
-fn run_steps(
-    memory: &mut [u16; MEMORY_WORDS],
-    devices: bool,
-    m: Machine,
-    c: Devices,
-    budget: u64,
-    input: &[u8],
-    output: &mut [u8; PAPER_PLACES],
-) -> emulator::DeviceAnswer
-    ensures { emulator.device_report m result memory.new output.new
-        ≡ emulation (variant_of devices) m c memory.old budget input.now output.old }
-{
-    if devices {
-        return emulator::emulate_devices(memory, m, c, budget, input, output);
-    }
-    let answer = emulator::emulate(memory, m, budget);
-    emulator::DeviceAnswer {
-        answer,
-        devices: c,
-        read: 0,
-        printed: 0,
-    }
-}
-
-// Runs the evaluator on the shipped description, with devices or without.
-fn run_cycles(
-    memory: &mut [u16; MEMORY_WORDS],
-    devices: bool,
-    registers: Registers,
-    budget: u64,
-    list: &mut [u8; ROW_PLACES],
-    input: &[u8],
-) -> evaluator::Answer
-    ensures { evaluator.report result memory.new list.new
-        ≡ (evaluation (variant_of devices) registers.values memory.old budget list.old input.now paper).report }
-{
-    if devices {
-        let text = shipped_rows::twin::devices_text();
-        let mut output = [0u8; PAPER_PLACES];
-        let r = evaluator::evaluate_devices(
-            &text,
-            memory,
-            registers,
-            budget,
-            list,
-            input,
-            &mut output,
-        );
-        return r.answer;
-    }
-    let text = shipped_rows::shipped_text();
-    evaluator::evaluate(&text, memory, registers, budget, list)
-}
-
 // How many rows the evaluator lists.
-fn listed_in(o: Outcome) -> usize
+fn listed_in(o: Result<evaluator::Ended, evaluator::Refusal>) -> usize
     ensures { result ≡ listed_in o }
 {
     match o {
-        Outcome::Ran(_, _, n) => n,
-        Outcome::Unread(_, _) => 0,
-        Outcome::Refused(_) => 0,
+        Ok(end) => end.listed,
+        Err(_) => 0,
     }
-}
-
-// The number before n, and 0 before 0.
-fn fewer(n: u64) -> u64
-    ensures { result ≡ n - 1 }
-{
-    if n == 0 { 0 } else { n - 1 }
 }
 
 // Runs the emulator up to the last of so many steps.
@@ -131,21 +66,29 @@ fn run_to_last(
     c: Devices,
     steps: u64,
     input: &[u8],
-) -> emulator::Answer
+) -> Result<emulator::Ended, Refusal>
     ensures { emulator.report m result memory.new ≡ (emulation (variant_of devices) m c memory.old (steps - 1) input.now paper).report }
 {
     let mut output = [0u8; PAPER_PLACES];
-    let r = run_steps(memory, devices, m, c, fewer(steps), input, &mut output);
+    let r = shipped::emulate_variant(
+        devices,
+        memory,
+        m,
+        c,
+        steps.saturating_sub(1),
+        input,
+        &mut output,
+    );
     r.answer
 }
 
 // PC in an answer of the emulator, which was given m.
-fn pc_in(m: Machine, a: emulator::Answer) -> u16
+fn pc_in(m: Machine, a: Result<emulator::Ended, Refusal>) -> u16
     ensures { result ≡ pc_in m a }
 {
     match a {
-        emulator::Answer::Ran(after, _, _) => after.pc,
-        emulator::Answer::Refused(_) => m.pc,
+        Ok(end) => end.machine.pc,
+        Err(_) => m.pc,
     }
 }
 
@@ -160,22 +103,13 @@ pub struct Ending {
 }
 
 // What was read and printed, where there are devices.
-fn put_exchange(
-    page: &mut [u8; PAGE_BYTES],
-    at: usize,
-    devices: bool,
-    read: usize,
-    output: &[u8; PAPER_PLACES],
-    printed: usize,
-) -> usize
-    requires fact_1 { printed ≤ paper_places }
-    requires fact_2 { at + read_line_bytes + printed_line_bytes + octet_bytes * printed ≤ page_bytes }
-    ensures { Written (exchange_of devices read (take printed output.now)) page.old at page.new result }
+fn put_exchange(draft: &mut Draft<PAGE_BYTES>, devices: bool, read: usize, printed: &[u8])
+    requires { length draft.old + read_line_bytes + printed_line_bytes + octet_bytes * length printed.now ≤ page_bytes }
+    ensures { draft.new ≡ draft.old ++ exchange_of devices read printed.now }
 {
     if devices {
-        return desk_exchange::put_exchange(page, at, read, output, printed);
+        desk_exchange::put_exchange(draft, read, printed);
     }
-    at
 }
 
 // How a run ended, what it read and printed, what its last step did by PC and memory before it, the machine registers, the working registers among those of the description, and the
@@ -192,20 +126,22 @@ fn put_answer(
     list: &[u8; ROW_PLACES],
     n: usize,
 ) -> usize
-    requires fact_1 { LastStep pc before.now memory.now }
-    requires fact_2 { e.printed ≤ paper_places }
-    requires fact_3 { n ≤ length list.now }
+    requires last_step { LastStep pc before.now memory.now }
+    requires printed_within { e.printed ≤ paper_places }
+    requires listed_within { n ≤ length list.now }
     ensures { Page (told devices (ended_by e memory.now output.now) pc before.now places (take n list.now))
         page.old page.new result }
 {
     let m = e.machine;
     let place = !devices | (e.printed < PAPER_PLACES);
-    let exchange = desk_last_lines::put_end_line(page, 0, e.steps, m.run as u64, place);
-    let step = put_exchange(page, exchange, devices, e.read, output, e.printed);
-    let machine = desk_last_step::put_last_step(page, step, devices, e.steps, pc, before, memory);
-    let working = registers::put_registers(page, machine, devices, m, e.devices);
-    let rows = registers::put_working(page, working, devices, places);
-    rows::put_rows(page, rows, devices, list, n)
+    let mut draft: Draft<PAGE_BYTES> = Draft::new();
+    desk_last_lines::put_end_line(&mut draft, e.steps, m.run as u64, place);
+    put_exchange(&mut draft, devices, e.read, &output[..e.printed]);
+    desk_last_step::put_last_step(&mut draft, devices, e.steps, pc, before, memory);
+    registers::put_registers(&mut draft, devices, m, e.devices);
+    registers::put_working(&mut draft, devices, places);
+    rows::put_rows(&mut draft, devices, &list[..n]);
+    draft.copy_to(page)
 }
 
 // Runs both engines, and the emulator to the last step again, and writes what came of it; nothing where they refuse.
@@ -222,29 +158,33 @@ fn answered(
 {
     let mut first = *memory;
     let mut output = [0u8; PAPER_PLACES];
-    let emulated = run_steps(&mut first, devices, m, c, budget, input, &mut output);
+    let emulated = shipped::emulate_variant(devices, &mut first, m, c, budget, input, &mut output);
     let mut second = *memory;
     let mut list = [0u8; ROW_PLACES];
-    let start = places_of(devices, m, c);
-    let evaluated = run_cycles(&mut second, devices, start, budget, &mut list, input);
-    let registers = evaluated.registers;
-    let places = registers.values;
-    let outcome = evaluated.outcome;
-    let n = listed_in(outcome);
-    let answer = emulated.answer;
-    match answer {
-        emulator::Answer::Refused(_) => 0,
-        emulator::Answer::Ran(after, _, steps) => {
-            let left = emulated.devices;
+    let mut blank = [0u8; PAPER_PLACES];
+    let evaluated = shipped::evaluate_variant(
+        devices,
+        &mut second,
+        places_of(devices, m, c),
+        budget,
+        &mut list,
+        input,
+        &mut blank,
+    );
+    let places = evaluated.answer.registers.values;
+    let n = listed_in(evaluated.answer.outcome);
+    match emulated.answer {
+        Err(_) => 0,
+        Ok(end) => {
             let e = Ending {
-                steps,
-                machine: after,
-                devices: left,
+                steps: end.steps,
+                machine: end.machine,
+                devices: emulated.devices,
                 read: emulated.read,
                 printed: emulated.printed,
             };
             let mut third = *memory;
-            let earlier = run_to_last(&mut third, devices, m, c, steps, input);
+            let earlier = run_to_last(&mut third, devices, m, c, end.steps, input);
             let pc = pc_in(m, earlier);
             put_answer(
                 page, devices, e, &output, pc, &third, &first, places, &list, n,
@@ -285,19 +225,17 @@ fn devices_in(rs: [u16; DESK_REGISTERS]) -> Devices
 pub fn explanation(memory: &[u16; MEMORY_WORDS], s: Scanner, page: &mut [u8; PAGE_BYTES]) -> usize
     ensures { Page (scan_explanation (kept s memory.now)) page.old page.new result }
 {
-    let refused = desk_inquiry::unfit_line(s);
-    if refused != 0 {
+    if let Some(refused) = desk_inquiry::unfit_line(s) {
         return desk_last_lines::put_refused_line(page, refused);
     }
-    let rs = s.registers;
-    let typed = s.input;
+    let asked = s.made;
     answered(
         memory,
-        s.devices,
-        machine_in(rs),
-        devices_in(rs),
-        s.budget,
-        characters::part(&typed, 0, s.typed),
+        asked.devices,
+        machine_in(asked.registers),
+        devices_in(asked.registers),
+        asked.budget,
+        characters::part(&asked.input, 0, asked.typed),
         page,
     )
 }

@@ -4,7 +4,7 @@ use Rattle.std.proofs.Common.{◌≡◌, ℕ, ◌+◌, ◌<◌, ◌≤◌, List,
 use Rattle.desk_image.specs.Pass.{pass, Passed}
 
 module _ {S : Type 0} (step : S → ℕ → S) where
-  pass_append : (s : S) (text more : List ℕ) → pass step s (text ++ more) ≡ pass step (pass step s text) more
+  pub pass_append : (s : S) (text more : List ℕ) → pass step s (text ++ more) ≡ pass step (pass step s text) more
   unfolding pass
   pass_append s [] more = refl
   pass_append s (b ∷ text) more = pass_append (step s b) text more

@@ -1,17 +1,10 @@
--- What a read comes to, where its answer is what the machine holds of it and the chunk is as long as that says.
+-- What a read comes to, where the chunk is the bytes that it read, and the answer is the read's.
 -- Assumes nothing.
-use Rattle.std.proofs.Common.{◌≡◌, ℕ, List, length, take, ℤ, pos, ap, ◌∙◌, subst}
-use lib.Signed.{lt_z}
-use Rattle.io.specs.Counts.{clamp_len}
+use Rattle.std.proofs.Common.{◌≡◌, ℕ, List}
+use Rattle.std.specs.Prelude.{Result}
 use Rattle.desk_image.specs.Pass.{Passed}
-use Rattle.desk_image.specs.Read.{AfterRead}
+use Rattle.desk_image.specs.Read.{bytes_read, AfterRead}
 
-pub after_read : {S : Type 0} (step : S → ℕ → S) (start s t : S) (got z : ℤ) (buffer : List ℕ) (n : ℕ) → z ≡ got → n ≡ clamp_len z (length buffer)
-    → Passed step start s (take n buffer) t → AfterRead step start s got buffer t (lt_z (pos 0) z) (lt_z z (pos 0))
-after_read step start s t got z buffer n answer size p =
-    let read : n ≡ clamp_len got (length buffer) = size ∙ ap (λ (x : ℤ). clamp_len x (length buffer)) answer in
-    record {
-      passed = subst (λ (k : ℕ). Passed step start s (take k buffer) t) read p;
-      goes = ap (lt_z (pos 0)) answer;
-      fails = ap (λ (x : ℤ). lt_z x (pos 0)) answer;
-    }
+pub after_read : {S E : Type 0} (step : S → ℕ → S) (start s t : S) (read answer : Result ℕ E) (buffer chunk : List ℕ) → answer ≡ read → chunk ≡ bytes_read read buffer
+    → Passed step start s chunk t → AfterRead step start s read buffer t answer
+after_read step start s t read answer buffer chunk same size p = record { passed = rw size at p; same = same }

@@ -3,7 +3,7 @@
 use Rattle.std.proofs.Common.{◌≡◌, ℕ, true, eqb, ltb, List, [], ◌∷◌, length, sym, subst, arith}
 use lib.ListN.{length-replicate}
 use Rattle.laws.proofs.Tests.{by_case}
-use Rattle.word.specs.Choice.{on}
+use Rattle.std.specs.Prelude.{is_some}
 use Rattle.state.specs.Limits.{memory_words}
 use Rattle.state.specs.Acceptable.{Acceptable}
 use Rattle.state.proofs.Accepted.{zeros, store_acceptable}
@@ -26,7 +26,7 @@ module _ {A : Type 0} (r : Reading A) (P : A → Type 0) (keeps : (line : List �
   byte : (s : Scan A) (b : ℕ) → Made s → Made (scan_byte r s b)
   unfolding scan_byte
   byte s b d =
-      by_case Made (on s.refused)
+      by_case Made (is_some s.refused)
       (λ t. d)
       (λ t. by_case Made (eqb b line_feed) (λ u. ends s d) (λ u. by_case Made (ltb (length s.part) r.most) (λ v. d) (λ v. d)))
 

@@ -1,6 +1,6 @@
 -- What the listing program reads: "lines of four-digit octal address, TAB, four-digit octal word"; and how both programs read lines. A line is read without its LF.
 -- Assumes nothing.
-use Rattle.std.specs.Prelude.{ℕ, suc, Bool, true, false, ◌&&◌, List, [], ◌∷◌, length, replicate, ◌==◌, slice_set}
+use Rattle.std.specs.Prelude.{ℕ, suc, Bool, true, false, ◌&&◌, List, [], ◌∷◌, length, replicate, ◌==◌, slice_set, Option, Some, None}
 use Rattle.state.specs.Limits.{memory_words}
 use Rattle.characters.specs.Characters.{run}
 use Rattle.characters.specs.declared.Class.{Class}
@@ -40,7 +40,7 @@ clear = replicate memory_words 0
 abbrev pub loaded : List ℕ → List ℕ
 loaded text = after_lines stored (lines text) clear
 
--- "the first such line's number", by which lines fit, of lines whose first has the number n; 0 where none is unfit. "Each line, read or written, ends with LF"
-unfoldable pub first_unfit : (List ℕ → Bool) → ℕ → List Line → ℕ
-first_unfit fits n [] = 0
-first_unfit fits n (l ∷ ls) = elim (l.ended && fits l.bytes) [ true ↦ first_unfit fits (suc n) ls | false ↦ n ]
+-- "the first such line's number", by which lines fit, of lines whose first has the number n. "Each line, read or written, ends with LF"
+unfoldable pub first_unfit : (List ℕ → Bool) → ℕ → List Line → Option ℕ
+first_unfit fits n [] = None
+first_unfit fits n (l ∷ ls) = elim (l.ended && fits l.bytes) [ true ↦ first_unfit fits (suc n) ls | false ↦ Some n ]

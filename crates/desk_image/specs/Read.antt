@@ -1,23 +1,14 @@
--- One read, as the C library answers it: how many bytes it put at the start of a buffer, 0 at the end of the input, a negative number where it failed.
+-- One read, as it is answered: how many bytes it put at the start of a buffer, 0 at the end of the input, or why it failed.
 -- Assumes nothing.
-use Rattle.std.specs.Prelude.{◌≡◌, ℕ, Bool, List, length, take, ℤ, pos, int_lt}
-use Rattle.io.specs.Counts.{clamp_len}
+use Rattle.std.specs.Prelude.{◌≡◌, ℕ, List, [], take, Result, Ok, Err}
 use Rattle.desk_image.specs.Pass.{Passed}
 
 -- the bytes that it read
-abbrev pub bytes_read : ℤ → List ℕ → List ℕ
-bytes_read got buffer = take (clamp_len got (length buffer)) buffer
+abbrev pub bytes_read : {E : Type 0} → Result ℕ E → List ℕ → List ℕ
+bytes_read (Ok n) buffer = take n buffer
+bytes_read (Err e) buffer = []
 
--- whether the input may go on: it does where a byte was read
-abbrev pub is_more : ℤ → Bool
-is_more got = int_lt (pos 0) got
-
--- whether it failed
-abbrev pub is_failed : ℤ → Bool
-is_failed got = int_lt got (pos 0)
-
--- what a read comes to: the bytes read are the next chunk of the text, and no other byte of the buffer is
-pub record AfterRead {S : Type 0} (step : S → ℕ → S) (start s : S) (got : ℤ) (buffer : List ℕ) (t : S) (more failed : Bool) : Type 0 where
-  pub passed : Passed step start s (bytes_read got buffer) t
-  pub goes : more ≡ is_more got
-  pub fails : failed ≡ is_failed got
+-- what a read comes to: the bytes read are the next chunk of the text, and no other byte of the buffer is; whether the input may go on and whether it failed is as the read says
+pub record AfterRead {S E : Type 0} (step : S → ℕ → S) (start s : S) (read : Result ℕ E) (buffer : List ℕ) (t : S) (answer : Result ℕ E) : Type 0 where
+  pub passed : Passed step start s (bytes_read read buffer) t
+  pub same : answer ≡ read

@@ -1,34 +1,29 @@
 // An image, read byte by byte: lines of four-digit octal address, TAB, four-digit octal word. The words are stored as they come.
 #![tactic(auto)]
 
-ghost use Rattle.std.specs.Prelude.{◌≡◌, ℕ, true, List, []};
+pub mod scan;
+
+ghost use Rattle.std.specs.Prelude.{◌≡◌, ℕ, true, List, [], refl};
+ghost use Rattle.std.proofs.Common.{rules};
 ghost use Rattle.desk_image.specs.Input.{is_digits, is_octal_word, octal_word, is_word_line, stored};
 ghost use Rattle.desk_image.specs.Pass.{Passed};
 ghost use Rattle.desk_image.specs.Read.{AfterRead};
-ghost use Rattle.desk_image.specs.Scan.{words, kept, refusing, at_next_line, ended, scan_byte, begun, scan_of, unfit_line};
+ghost use Rattle.desk_image.specs.Scan.{words, kept, scan_byte, begun, scan_of, unfit_line};
 
-use characters::{Class, LINE_FEED};
+use characters::Class;
+use scan::Lines;
 use state::MEMORY_WORDS;
+use std::io;
 
 // No fit line has more bytes.
 const LINE_BYTES: usize = 9;
 
-// The place in the input: the line's number from 1 and the bytes read of it; and the first line that was refused, or 0.
+// The words of an image: all that its lines make is the memory.
 #[derive(Clone, Copy)]
-pub struct Scanner {
-    pub line: u64,
-    pub size: usize,
-    pub bytes: [u8; LINE_BYTES],
-    pub refused: u64,
-}
+pub struct Words;
 
-// The scanner after a read, whether the input may go on, and whether the read failed.
-#[derive(Clone, Copy)]
-pub struct Progress {
-    pub scanner: Scanner,
-    pub more: bool,
-    pub failed: bool,
-}
+// The place in an image.
+pub type Scanner = scan::Scanner<Words, LINE_BYTES>;
 
 // Whether a field is n digits of a class.
 pub fn is_digits(class: Class, n: usize, field: &[u8]) -> bool
@@ -64,112 +59,58 @@ fn store(memory: &mut [u16; MEMORY_WORDS], line: &[u8])
     memory[address] = word;
 }
 
-// The line is unfit.
-fn refused(s: Scanner) -> Scanner
-    ensures { (memory : List ℕ) → kept result memory ≡ refusing (kept s memory) }
-{
-    let mut next = s;
-    next.refused = s.line;
-    next
-}
+impl Lines<LINE_BYTES> for Words {
+    ghost Made = { List ℕ };
 
-// At the start of the next line.
-fn next_line(s: Scanner) -> Scanner
-    ensures { (before after : List ℕ) → kept result after ≡ at_next_line after (kept s before) }
-{
-    let mut next = s;
-    next.line = std::num::wrapping_add_u64(s.line, 1);
-    next.size = 0;
-    next
-}
+    ghost reading = { words };
 
-// The scanner and the memory after the line's LF.
-fn end_line(memory: &mut [u16; MEMORY_WORDS], s: Scanner) -> Scanner
-    ensures { kept result memory.new ≡ ended words (kept s memory.old) }
-{
-    let buffer = s.bytes;
-    let line = characters::part(&buffer, 0, s.size);
-    if is_word_line(line) {
-        store(memory, line);
-        return next_line(s);
-    }
-    refused(s)
-}
+    ghost made = { λ w memory. memory };
 
-// The scanner and the memory after one more byte.
-fn scan_byte(memory: &mut [u16; MEMORY_WORDS], s: Scanner, b: u8) -> Scanner
-    ensures { kept result memory.new ≡ scan_byte words (kept s memory.old) b }
-{
-    if s.refused != 0 {
-        return s;
+    fn enter(&mut self, memory: &mut [u16; MEMORY_WORDS], line: &[u8]) -> bool {
+        let fit = is_word_line(line);
+        if fit {
+            store(memory, line);
+        }
+        fit
     }
-    if b == LINE_FEED {
-        return end_line(memory, s);
-    }
-    let size = s.size;
-    if size < LINE_BYTES {
-        let mut next = s;
-        next.bytes[size] = b;
-        next.size = size + 1;
-        return next;
-    }
-    refused(s)
+
+    ghost most = { refl };
+
+    ghost some = { Prim.search rules };
 }
 
 // A cleared memory, and the scanner of an empty text.
+#[tactic(auto, unfolding(crate::specs::Pass::pass))]
 pub fn begin(memory: &mut [u16; MEMORY_WORDS]) -> Scanner
     ensures { kept result memory.new ≡ scan_of words [] }
 {
-    *memory = [0; MEMORY_WORDS];
-    Scanner {
-        line: 1,
-        size: 0,
-        bytes: [0; LINE_BYTES],
-        refused: 0,
-    }
+    Scanner::begin(memory, Words)
 }
 
 // The scanner and the memory after the bytes of a chunk: those of a text that goes on with it.
 pub fn scanned(memory: &mut [u16; MEMORY_WORDS], s: Scanner, chunk: &[u8]) -> Scanner
     ensures { Passed (scan_byte words) (begun words) (kept s memory.old) chunk.now (kept result memory.new) }
 {
-    let mut at = s;
-    let mut i = 0;
-    while i < chunk.len() {
-        at = scan_byte(memory, at, chunk[i]);
-        i += 1;
-    }
-    at
+    let mut next = s;
+    next.scan(memory, chunk);
+    next
 }
 
-// The scanner and the memory after a read that answered `got` and left the buffer as it is: after the bytes that were read, and no others.
+// The scanner and the memory after a read that left the buffer as it is: after the bytes that were read, and no others. Answers as the read did.
 pub fn after_read(
     memory: &mut [u16; MEMORY_WORDS],
-    s: Scanner,
-    got: isize,
+    s: &mut Scanner,
+    read: io::Result<usize>,
     buffer: &[u8],
-) -> Progress
-    ensures { AfterRead (scan_byte words) (begun words) (kept s memory.old) got buffer.now (kept result.scanner memory.new)
-        result.more result.failed }
+) -> io::Result<usize>
+    ensures { AfterRead (scan_byte words) (begun words) (kept s.old memory.old) read buffer.now (kept s.new memory.new) result }
 {
-    let n = io::count(got, buffer);
-    let next = scanned(memory, s, &buffer[..n]);
-    Progress {
-        scanner: next,
-        more: got > 0,
-        failed: got < 0,
-    }
+    s.after_read(memory, read, buffer)
 }
 
-// The number of the first unfit line of a text that ends here, or 0: a line that has begun lacks its LF.
-pub fn unfit_line(s: Scanner) -> u64
+// The number of the first unfit line of a text that ends here: a line that has begun lacks its LF.
+pub fn unfit_line(s: Scanner) -> Option<u64>
     ensures { result ≡ unfit_line (kept s []) }
 {
-    if s.refused != 0 {
-        s.refused
-    } else if s.size != 0 {
-        s.line
-    } else {
-        0
-    }
+    s.unfit_line()
 }

@@ -12,10 +12,11 @@ use Rattle.desk_image.proofs.WordLine.{octal_word_lt}
 use Rattle.desk_image.proofs.Sound.{reached_keeps, clear_acceptable}
 use Rattle.text_fields.specs.Fields.{field}
 use Rattle.desk_entry.specs.Lines.{entry}
-use Rattle.desk_inquiry.specs.Input.{Inquiry, ready, entered}
+use Rattle.desk_inquiry.specs.Input.{Inquiry, ready, entered, entered_if}
 use Rattle.desk_inquiry.specs.Scan.{asking}
 use Rattle.desk_entry.specs.declared.Entry.{Entry}
-use Rattle.desk_entry.specs.declared.Entry.TheVariants.{Word, Register, Budget, Input, Unfit}
+use Rattle.desk_entry.specs.declared.Entry.TheVariants.{Word, Register, Budget, Input}
+use Rattle.std.specs.Prelude.{Option, Some, None}
 use Rattle.desk_entry.proofs.ByKind.{by_entry}
 
 -- what no check of a state turns down
@@ -31,11 +32,14 @@ Narrow (Word address word) = word < 2 ^ word_bits
 Narrow (Register place value) = value < 2 ^ get_or desk_widths place 0
 Narrow (Budget steps) = steps ≤ budget_limit
 Narrow (Input n) = Unit {0}
-Narrow Unfit = Unit {0}
 
-entry_narrow : (line : List ℕ) → Narrow (entry line)
+abbrev NarrowIf : Option Entry → Type 0
+NarrowIf (Some e) = Narrow e
+NarrowIf None = Unit {0}
+
+entry_narrow : (line : List ℕ) → NarrowIf (entry line)
 entry_narrow line =
-    by_entry Narrow tt line (λ t.
+    by_entry NarrowIf tt line (λ t.
     record { word = λ a w. octal_word_lt (field 1 line) w; register = λ h d narrow. ltb-true _ _ narrow; budget = λ h few small. small; input = λ h bytes. tt })
 
 -- ---- and what is asked
@@ -46,7 +50,10 @@ enters (Word address word) value q h d = record { registers = d.registers; budge
 enters (Register place v) value q h d = record { registers = store_fitting place h d.registers; budget = d.budget; memory = d.memory }
 enters (Budget steps) value q h d = record { registers = d.registers; budget = h; memory = d.memory }
 enters (Input n) value q h d = record { registers = d.registers; budget = d.budget; memory = d.memory }
-enters Unfit value q h d = d
+
+enters_if : (said : Option Entry) (value : List ℕ) (q : Inquiry) → NarrowIf said → Sound q → Sound (entered_if said value q)
+enters_if (Some e) value q h d = enters e value q h d
+enters_if None value q h d = d
 
 ready_sound : Sound ready
 unfolding ready first_too_wide
@@ -54,4 +61,4 @@ ready_sound = record { registers = registers_fitting desk_widths ready.registers
 
 -- after every text
 pub reached_sound : (s : Scan Inquiry) → Reached asking s → Sound s.made
-reached_sound s reached = reached_keeps asking Sound (λ line t q d. enters (entry line) (field 1 line) q (entry_narrow line) d) ready_sound s reached
+reached_sound s reached = reached_keeps asking Sound (λ line t q d. enters_if (entry line) (field 1 line) q (entry_narrow line) d) ready_sound s reached

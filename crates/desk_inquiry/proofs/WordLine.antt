@@ -16,6 +16,7 @@ use Rattle.desk_image.proofs.WordLine.{word_line}
 use Rattle.desk_image.proofs.ByLines.{Bounded}
 use Rattle.desk_registers.specs.Registers.{desk_registers}
 use Rattle.desk_entry.specs.Lines.{word_entry, said, entry}
+use Rattle.std.specs.Prelude.{Some}
 use Rattle.desk_entry.specs.declared.Entry.TheVariants.{Word}
 use Rattle.desk_entry.proofs.Short.{long_unfit}
 use Rattle.desk_inquiry.specs.Input.{is_fit_line}
@@ -72,7 +73,7 @@ no_other name value h =
     ap (λ (n : ℕ). ltb n (length desk_registers)) (none_found name desk_registers h refl) in
     rw (no_budget name h, no_input name h, none, said)
 
-pub says_word : (line : List ℕ) → is_word_line line ≡ true → entry line ≡ Word (octal_word (field 0 line)) (octal_word (field 1 line))
+pub says_word : (line : List ℕ) → is_word_line line ≡ true → entry line ≡ Some (Word (octal_word (field 0 line)) (octal_word (field 1 line)))
 unfolding entry word_entry
 says_word line t =
     let w = word_line line t in

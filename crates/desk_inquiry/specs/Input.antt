@@ -1,7 +1,7 @@
 -- What the program `explain` reads: the image's lines as for the day listing, "optional lines for machine registers (name, TAB, octal) and `budget`,
 -- TAB, decimal", and, for a run with devices, lines of device registers and of the input.
 -- Assumes nothing.
-use Rattle.std.specs.Prelude.{ℕ, Bool, true, false, ◌||◌, List, [], ◌++◌, length, nat_le, slice_set}
+use Rattle.std.specs.Prelude.{ℕ, Bool, true, false, ◌||◌, List, [], ◌++◌, length, nat_le, slice_set, Option, Some, None}
 use Rattle.devices.specs.Devices.{device_values}
 use Rattle.machine_state.specs.Registers.{machine_registers, values}
 use Rattle.text_fields.specs.Fields.{lines, field}
@@ -9,7 +9,7 @@ use Rattle.desk_image.specs.Input.{after_lines, clear}
 use Rattle.desk_entry.specs.Octets.{octets}
 use Rattle.desk_entry.specs.Lines.{entry, is_fit}
 use Rattle.desk_entry.specs.declared.Entry.{Entry}
-use Rattle.desk_entry.specs.declared.Entry.TheVariants.{Word, Register, Budget, Input, Unfit}
+use Rattle.desk_entry.specs.declared.Entry.TheVariants.{Word, Register, Budget, Input}
 
 -- what a run starts from: the machine registers in their order, then the devices'; the budget, the memory, the input; and whether the run is one with devices
 pub record Inquiry : Type 0 where
@@ -44,14 +44,17 @@ entered (Register place v) value q =
     record { registers = slice_set q.registers place v; budget = q.budget; memory = q.memory; input = q.input; devices = is_devices place || q.devices }
 entered (Budget steps) value q = record { registers = q.registers; budget = steps; memory = q.memory; input = q.input; devices = q.devices }
 entered (Input n) value q = record { registers = q.registers; budget = q.budget; memory = q.memory; input = octets value n; devices = true }
-entered Unfit value q = q
 
 -- whether a line is fit, and what it says, entered
 abbrev pub is_fit_line : List ℕ → Bool
 is_fit_line line = is_fit (entry line)
 
+abbrev pub entered_if : Option Entry → List ℕ → Inquiry → Inquiry
+entered_if (Some e) value q = entered e value q
+entered_if None value q = q
+
 abbrev pub entered_line : List ℕ → Inquiry → Inquiry
-entered_line line q = entered (entry line) (field 1 line) q
+entered_line line q = entered_if (entry line) (field 1 line) q
 
 -- "a later line for the same thing wins": what a text asks for
 abbrev pub asked : List ℕ → Inquiry

@@ -2,27 +2,26 @@
 -- shows that they come to what Input says by lines.
 -- Assumes nothing.
 use Rattle.std.specs.Prelude.{ℕ, List, take}
-use Rattle.desk_image.specs.Scan.{Reading, Scan}
+use Rattle.desk_image.specs.Scan.{Reading, Scan, kept_by}
+use Rattle.desk_image.specs.declared.scan.Scanner.{Scanner}
 use Rattle.desk_entry.specs.Sizes.{line_bytes}
 use Rattle.desk_entry.specs.Octets.{Bytes}
 use Rattle.desk_entry.specs.declared.Entry.{Entry}
-use Rattle.desk_entry.specs.declared.Entry.TheVariants.{Word, Register, Budget, Input, Unfit}
-use Rattle.desk_inquiry.specs.Input.{Inquiry, ready, entered, is_fit_line, entered_line}
-use Rattle.desk_inquiry.specs.declared.Scanner.{Scanner}
+use Rattle.desk_entry.specs.declared.Entry.TheVariants.{Word, Register, Budget, Input}
+use Rattle.desk_inquiry.specs.Input.{Inquiry, ready, is_fit_line, entered_line}
+use Rattle.desk_inquiry.specs.declared.Asked.{Asked}
 
 abbrev pub asking : Reading Inquiry
 asking = record { most = line_bytes; fits = is_fit_line; enter = entered_line; start = ready }
 
+-- what lines have asked for, with the memory
+abbrev pub inquiry : Asked → List ℕ → Inquiry
+inquiry a memory =
+    record { registers = a.registers; budget = a.budget; memory = memory; input = take a.typed a.input; devices = a.devices }
+
 -- what a scanner keeps, and the memory that it loads
-abbrev pub kept : Scanner → List ℕ → Scan Inquiry
-kept s memory =
-    record {
-      line = s.line;
-      part = take s.size s.bytes;
-      refused = s.refused;
-      made =
-          record { registers = s.registers; budget = s.budget; memory = memory; input = take s.typed s.input; devices = s.devices };
-    }
+abbrev pub kept : Scanner Asked line_bytes → List ℕ → Scan Inquiry
+kept s memory = kept_by inquiry s memory
 
 -- what is known of the second field of a line that says e
 abbrev pub Bears : Entry → List ℕ → Type 0
@@ -30,8 +29,3 @@ Bears (Word address word) value = Unit {0}
 Bears (Register place v) value = Unit {0}
 Bears (Budget steps) value = Unit {0}
 Bears (Input n) value = Bytes value n
-Bears Unfit value = Unit {0}
-
--- with what a line says entered, its second field being `value`
-abbrev pub entering : Entry → List ℕ → Scan Inquiry → Scan Inquiry
-entering e value s = record { line = s.line; part = s.part; refused = s.refused; made = entered e value s.made }

@@ -1,6 +1,6 @@
 -- The last line of a run, and the one line of a refused text.
 -- Assumes nothing.
-use Rattle.std.specs.Prelude.{List, [], ◌∷◌, ◌++◌, ℕ, zero, suc}
+use Rattle.std.specs.Prelude.{List, [], ◌∷◌, ◌++◌, ℕ, Option, Some, None}
 use Rattle.state.specs.declared.Reason.{Reason}
 use Rattle.state.specs.declared.Reason.TheVariants.{Halted, Spent, Paper}
 use Rattle.characters.specs.Ascii.{ascii, tab, line_feed}
@@ -20,7 +20,7 @@ end_line steps reason = ascii "end\t" ++ decimal steps ++ tab ∷ reason_word re
 unfoldable pub refused_line : ℕ → List ℕ
 refused_line n = ascii "refused\t" ++ decimal n ++ line_feed ∷ []
 
--- "If any line is unfit": by the first such line's number, or 0, and the output where none is
-abbrev pub or_refused : ℕ → List ℕ → List ℕ
-or_refused zero output = output
-or_refused (suc n) output = refused_line (suc n)
+-- "If any line is unfit": by the first such line's number, if there is one, and the output where none is
+abbrev pub or_refused : Option ℕ → List ℕ → List ℕ
+or_refused None output = output
+or_refused (Some n) output = refused_line n

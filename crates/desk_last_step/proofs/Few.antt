@@ -1,7 +1,6 @@
 -- "at most three such lines": a step stores at most a word that it indexes by, the word that its op works on, and PC where it is interrupted.
 -- Assumes nothing.
 use mathlib.Core.Path.{sym, subst}
-use mathlib.Core.Bool.{Bool}
 use mathlib.Core.List.{List}
 use Prim.Native.Nat.{ℕ, ◌+◌, ◌≤◌}
 use native.Mathlib.Omega.{arith}

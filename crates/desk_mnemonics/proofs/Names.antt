@@ -3,7 +3,7 @@
 use mathlib.Core.Path.{◌≡◌, refl, sym, ap, ◌∙◌}
 use mathlib.Core.Bool.{Bool, true, false, ◌&&◌}
 use mathlib.Core.List.{List, [], ◌∷◌, ◌++◌, append-nil, append_assoc}
-use Prim.Native.Nat.{ℕ, zero, suc, ◌+◌, ◌*◌, ◌≤◌, ◌<◌}
+use Prim.Native.Nat.{ℕ, ◌+◌, ◌*◌, ◌≤◌, ◌<◌}
 use native.Mathlib.Numerals.{add-one}
 use native.Mathlib.Omega.{arith}
 use lib.Dec.{eqb, leb, ltb}
@@ -19,7 +19,7 @@ use Rattle.page.specs.Text.{octal}
 use Rattle.page.proofs.Numbers.{octal_length}
 use Rattle.desk_mnemonics.specs.declared.Name.{Name}
 use Rattle.desk_mnemonics.specs.Mnemonics.{names, device_names, handbook, is_named, names_of, unnamed, space, spaced, parted, operand, mnemonic}
-use Rattle.desk_mnemonics.specs.Sizes.{no_name, name_bytes, names_bytes, operand_bytes, mnemonic_bytes}
+use Rattle.desk_mnemonics.specs.Sizes.{name_bytes, names_bytes, operand_bytes, mnemonic_bytes}
 
 -- ---- the table
 
@@ -31,33 +31,19 @@ pub plain_count : length (handbook false) ≡ 28
 unfolding names
 plain_count = refl
 
--- a machine's names are the first of all
 pub names_within : (devices : Bool) → length (handbook devices) ≤ 36
 names_within true = omega (arith, names_count)
 names_within false = omega (arith, plain_count)
-
-names_first : (devices : Bool) → take (length (handbook devices)) (handbook true) ≡ handbook devices
-unfolding names device_names
-names_first true = refl
-names_first false = refl
 
 -- whether no name has more than n letters
 abbrev all_within : ℕ → List Name → Bool
 all_within n [] = true
 all_within n (m ∷ ns) = leb (length m.letters) n && all_within n ns
 
-each_within : (n : ℕ) (ns : List Name) → all_within n ns ≡ true → (k : ℕ) → length (get_or ns k no_name).letters ≤ n
-each_within n [] t k = omega arith
-each_within n (m ∷ ns) t zero = leb-true (length m.letters) n (and_left (leb (length m.letters) n) (all_within n ns) t)
-each_within n (m ∷ ns) t (suc k) = each_within n ns (and_right (leb (length m.letters) n) (all_within n ns) t) k
-
 three_letters : (devices : Bool) → all_within 3 (handbook devices) ≡ true
 unfolding names device_names
 three_letters true = refl
 three_letters false = refl
-
-pub name_size : (k : ℕ) → length (get_or (handbook true) k no_name).letters ≤ 3
-name_size k = each_within 3 (handbook true) (three_letters true) k
 
 -- ---- names so far
 
@@ -98,32 +84,28 @@ names_snoc i (m ∷ ns) n =
     ap (λ (l : List (List ℕ)). pick (is_named i m) (m.letters ∷ []) [] ++ l) (names_snoc i ns n)
     ∙ sym (append_assoc (pick (is_named i m) (m.letters ∷ []) []) (names_of i ns) (pick (is_named i n) (n.letters ∷ []) []))
 
--- the names among the first k of the table
-abbrev pub found : ℕ → ℕ → List (List ℕ)
-found i k = names_of i (take k (handbook true))
+-- the names among the first k of a table
+abbrev pub found : ℕ → List Name → ℕ → List (List ℕ)
+found i ns k = names_of i (take k ns)
 
-module _ (i k : ℕ) (h : k < length (handbook true)) where
+module _ (i : ℕ) (ns : List Name) (k : ℕ) (d : Name) (h : k < length ns) where
   abbrev last : Name
-  last = get_or (handbook true) k no_name
+  last = get_or ns k d
 
-  found_more : found i (k + 1) ≡ found i k ++ pick (is_named i last) (last.letters ∷ []) []
-  found_more = ap (found i) (add-one k) ∙ ap (names_of i) (take-suc (handbook true) k no_name h) ∙ names_snoc i (take k (handbook true)) last
+  found_more : found i ns (k + 1) ≡ found i ns k ++ pick (is_named i last) (last.letters ∷ []) []
+  found_more = ap (found i ns) (add-one k) ∙ ap (names_of i) (take-suc ns k d h) ∙ names_snoc i (take k ns) last
 
-  pub text_more : (mark : ℕ) → mark ≡ mark_of (found i k) → begun (found i (k + 1)) ≡ begun (found i k) ++ pick (is_named i last) (mark ∷ last.letters) []
+  pub text_more : (mark : ℕ) → mark ≡ mark_of (found i ns k) → begun (found i ns (k + 1)) ≡ begun (found i ns k) ++ pick (is_named i last) (mark ∷ last.letters) []
   text_more mark e =
       ap begun found_more
-      ∙ begun_more (is_named i last) (found i k) last.letters
-      ∙ ap (λ (b : ℕ). begun (found i k) ++ pick (is_named i last) (b ∷ last.letters) []) (sym e)
+      ∙ begun_more (is_named i last) (found i ns k) last.letters
+      ∙ ap (λ (b : ℕ). begun (found i ns k) ++ pick (is_named i last) (b ∷ last.letters) []) (sym e)
 
-  pub marks_more : (mark : ℕ) → mark ≡ mark_of (found i k) → pick (is_named i last) space mark ≡ mark_of (found i (k + 1))
+  pub marks_more : (mark : ℕ) → mark ≡ mark_of (found i ns k) → pick (is_named i last) space mark ≡ mark_of (found i ns (k + 1))
   marks_more mark e =
       ap (λ (b : ℕ). pick (is_named i last) space b) e
-      ∙ mark_more (is_named i last) (found i k) last.letters
+      ∙ mark_more (is_named i last) (found i ns k) last.letters
       ∙ ap mark_of (sym found_more)
-
--- all of a machine's
-pub found_all : (devices : Bool) (i k : ℕ) → k ≡ length (handbook devices) → found i k ≡ names_of i (handbook devices)
-found_all devices i k h = ap (found i) h ∙ ap (names_of i) (names_first devices)
 
 -- with none the mark is still TAB, and what stands for none follows
 pub none_named : (none : List ℕ) (ws : List (List ℕ)) → mark_of ws ≡ tab → begun ws ++ tab ∷ none ≡ tab ∷ parted none ws

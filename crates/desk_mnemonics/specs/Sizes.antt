@@ -1,11 +1,6 @@
--- The bytes that a page needs for a mnemonic, and what stands past the table. A reader need not believe these.
+-- The bytes that a draft needs for a mnemonic. A reader need not believe these.
 -- Assumes nothing.
-use Rattle.std.specs.Prelude.{[], ℕ}
-use Rattle.desk_mnemonics.specs.declared.Name.{Name}
-
--- past the table there is no name: no instruction has it
-abbrev pub no_name : Name
-no_name = record { mask = 0; code = 1; letters = [] }
+use Rattle.std.specs.Prelude.{ℕ}
 
 -- the most bytes that a name behind its mark has, all names, and the operand
 abbrev pub name_bytes : ℕ

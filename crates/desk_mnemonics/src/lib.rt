@@ -1,17 +1,16 @@
 // Mnemonics: an instruction by the handbook's names.
 #![tactic(auto)]
 
-ghost use Rattle.std.specs.Prelude.{true, ◌≡◌, [], ◌∷◌, ◌+◌, ◌<◌, ◌≤◌, length, get_or};
+ghost use Rattle.std.specs.Prelude.{◌≡◌, [], ◌∷◌, ◌+◌, ◌≤◌, ◌++◌, length};
 ghost use Rattle.word.specs.Choice.{pick, on};
 ghost use Rattle.machine_state.specs.Instruction.{ib};
 ghost use Rattle.characters.specs.Ascii.{ascii, tab};
-ghost use Rattle.page.specs.Written.{Written};
 ghost use Rattle.desk_mnemonics.specs.Mnemonics.{handbook, is_named, names_of, unnamed, space, parted, operand, mnemonic};
-ghost use Rattle.desk_mnemonics.specs.Sizes.{no_name, name_bytes, names_bytes, operand_bytes, mnemonic_bytes};
+ghost use Rattle.desk_mnemonics.specs.Sizes.{name_bytes, names_bytes, operand_bytes, mnemonic_bytes};
 
 use characters::TAB;
 use machine_reference::address::first_address;
-use page::{put_byte, put_octal, put_text};
+use page::Draft;
 
 // A name of the handbook: an instruction has it where the bits of the mask are as in the code.
 #[derive(Clone, Copy)]
@@ -21,15 +20,15 @@ pub struct Name {
     pub letters: [u8; 3],
 }
 
-// The names of the machine without devices, and all.
+// How many the machine without devices has, and how many there are.
 const PLAIN_NAMES: usize = 28;
 
 const NAMES: usize = 36;
 
-const SPACE: u8 = 32;
+const SPACE: u8 = b' ';
 
 // The names, in the order in which a mnemonic has them; last those of the devices.
-const TABLE: [Name; NAMES] = [
+static TABLE: [Name; NAMES] = [
     Name {
         mask: 0o7000,
         code: 0o0000,
@@ -212,19 +211,15 @@ const TABLE: [Name; NAMES] = [
     },
 ];
 
-// How many rows of the table are a machine's names, by whether it has devices.
-fn count(devices: bool) -> usize
-    ensures { result ≡ length (handbook devices) }
+// A machine's names, by whether it has devices.
+fn machine_names(devices: bool) -> &'static [Name]
+    ensures { result.now ≡ handbook devices }
 {
-    if devices { NAMES } else { PLAIN_NAMES }
-}
-
-// A row of the table.
-fn name_at(k: usize) -> Name
-    requires { k < length (handbook true) }
-    ensures { result ≡ get_or (handbook true) k no_name }
-{
-    TABLE[k]
+    if devices {
+        &TABLE
+    } else {
+        &TABLE[..PLAIN_NAMES]
+    }
 }
 
 // Whether an instruction has a name.
@@ -234,92 +229,73 @@ fn is_named(i: u16, name: Name) -> bool
     i & name.mask == name.code
 }
 
-// A name behind a mark, where the instruction has it.
-fn put_name(page: &mut [u8], at: usize, mark: u8, i: u16, name: Name) -> usize
-    requires { at + length name.letters + 1 ≤ length page.old }
-    ensures { Written (pick (is_named i name) (mark ∷ name.letters) []) page.old at page.new result }
+// A name behind a mark, where the instruction has it. Answers the mark of the name after it.
+fn put_name<const N: usize>(draft: &mut Draft<N>, mark: u8, i: u16, name: Name) -> u8
+    requires { length draft.old + name_bytes ≤ N }
+    ensures text { draft.new ≡ draft.old ++ pick (is_named i name) (mark ∷ name.letters) [] }
+    ensures after { result ≡ pick (is_named i name) space mark }
+    ensures room { length draft.new ≤ length draft.old + name_bytes }
 {
-    if is_named(i, name) {
-        let letters = name.letters;
-        let start = put_byte(page, at, mark);
-        put_text(page, start, &letters)
-    } else {
-        at
+    if !is_named(i, name) {
+        return mark;
     }
-}
-
-// The mark of the name after it.
-fn mark_after(mark: u8, i: u16, name: Name) -> u8
-    ensures { result ≡ pick (is_named i name) space mark }
-{
-    if is_named(i, name) { SPACE } else { mark }
+    draft.put_byte(mark);
+    draft.put_text(&name.letters);
+    SPACE
 }
 
 // The word of an instruction that has no name.
-fn put_unnamed(page: &mut [u8], at: usize, i: u16) -> usize
-    requires { at + name_bytes ≤ length page.old }
-    ensures { Written (tab ∷ unnamed i) page.old at page.new result }
+fn put_unnamed<const N: usize>(draft: &mut Draft<N>, i: u16)
+    requires { length draft.old + name_bytes ≤ N }
+    ensures { draft.new ≡ draft.old ++ tab ∷ unnamed i }
 {
-    if i / 512 % 8 == 6 {
-        put_text(page, at, b"\tIOT")
-    } else {
-        put_text(page, at, b"\tNOP")
-    }
+    let word = if i / 512 % 8 == 6 { b"\tIOT" } else { b"\tNOP" };
+    draft.put_text(word);
 }
 
 // The names that an instruction has, behind a TAB.
-fn put_names(page: &mut [u8], at: usize, devices: bool, i: u16) -> usize
-    requires { at + names_bytes ≤ length page.old }
-    ensures { Written (tab ∷ parted (unnamed i) (names_of i (handbook devices))) page.old at page.new result }
+fn put_names<const N: usize>(draft: &mut Draft<N>, devices: bool, i: u16)
+    requires { length draft.old + names_bytes ≤ N }
+    ensures { draft.new ≡ draft.old ++ tab ∷ parted (unnamed i) (names_of i (handbook devices)) }
 {
-    let rows = count(devices);
-    let mut end = at;
     let mut mark = TAB;
-    let mut k = 0;
-    while k < rows {
-        let name = name_at(k);
-        end = put_name(page, end, mark, i, name);
-        mark = mark_after(mark, i, name);
-        k += 1;
+    let names = machine_names(devices);
+    for name in names {
+        mark = put_name(draft, mark, i, *name);
     }
     if mark == TAB {
-        put_unnamed(page, end, i)
-    } else {
-        end
+        put_unnamed(draft, i);
     }
 }
 
 // The first address, behind a space or the letter for indirection.
-fn put_operand(page: &mut [u8], at: usize, i: u16, last: u16) -> usize
-    requires { at + operand_bytes ≤ length page.old }
-    ensures { Written (operand i last) page.old at page.new result }
+fn put_operand<const N: usize>(draft: &mut Draft<N>, i: u16, last: u16)
+    requires { length draft.old + operand_bytes ≤ N }
+    ensures { draft.new ≡ draft.old ++ operand i last }
 {
-    let address = first_address(i as u64, last as u64);
-    let start = put_mark(page, at, i);
-    put_octal(page, start, 4, address)
+    put_mark(draft, i);
+    draft.put_octal(4, first_address(i as u64, last as u64).number);
 }
 
 // What stands before the first address.
-fn put_mark(page: &mut [u8], at: usize, i: u16) -> usize
-    requires { at + 3 ≤ length page.old }
-    ensures { Written (pick (on (ib i)) (ascii " I ") (ascii " ")) page.old at page.new result }
+fn put_mark<const N: usize>(draft: &mut Draft<N>, i: u16)
+    requires { length draft.old + 3 ≤ N }
+    ensures { draft.new ≡ draft.old ++ pick (on (ib i)) (ascii " I ") (ascii " ") }
 {
     if i / 256 % 2 != 0 {
-        put_text(page, at, b" I ")
+        draft.put_text(b" I ");
     } else {
-        put_text(page, at, b" ")
+        draft.put_text(b" ");
     }
 }
 
 // The mnemonic of the instruction i that was fetched from `last`, by the names of the machine with devices or without, behind a TAB.
-pub fn put_mnemonic(page: &mut [u8], at: usize, devices: bool, i: u16, last: u16) -> usize
-    requires { at + mnemonic_bytes ≤ length page.old }
-    ensures { Written (tab ∷ mnemonic devices i last) page.old at page.new result }
+pub fn put_mnemonic<const N: usize>(draft: &mut Draft<N>, devices: bool, i: u16, last: u16)
+    requires { length draft.old + mnemonic_bytes ≤ N }
+    ensures { draft.new ≡ draft.old ++ tab ∷ mnemonic devices i last }
 {
-    let end = put_names(page, at, devices, i);
+    put_names(draft, devices, i);
     if i / 512 % 8 < 6 {
-        put_operand(page, end, i, last)
-    } else {
-        end
+        put_operand(draft, i, last);
     }
 }

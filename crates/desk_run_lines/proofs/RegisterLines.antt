@@ -1,4 +1,4 @@
--- How many bytes a register's line has, where it ends on the page, and how many the lines of the machine registers, by their table, and of the four working registers have.
+-- How many bytes a register's line has, how many a draft has with it, and how many the lines of the machine registers, by their table, and of the four working registers have.
 -- Assumes nothing.
 use mathlib.Core.Path.{◌≡◌, refl, sym, ap, ap₂, ◌∙◌}
 use mathlib.Core.Bool.{Bool, true, false}
@@ -17,8 +17,8 @@ use Rattle.desk_registers.specs.Registers.{desk_registers}
 use Rattle.characters.specs.Named.{Named}
 use Rattle.characters.specs.Ascii.{ascii, tab, line_feed}
 use Rattle.page.specs.Text.{octal}
-use Rattle.page.specs.Written.{Written}
 use Rattle.page.proofs.Numbers.{octal_length}
+use Rattle.page.proofs.Writing.{drafted_size}
 use Rattle.text_limits.specs.Limits.{most_registers}
 use Rattle.text_declaration.specs.Rows.{Description}
 use Rattle.shipped_rows.specs.Variant.{Variant, plain, devices, registers_of, values_of}
@@ -29,9 +29,10 @@ use Rattle.desk_run_lines.specs.Sizes.{register_lines_bytes, working_lines_bytes
 register_size : (name : List ℕ) (n value : ℕ) → length (name ++ tab ∷ octal n value ++ line_feed ∷ []) ≡ length name + n + 2
 register_size name n value = let digits = octal_length n value in simp length-append (omega arith)
 
-pub register_end : (name : List ℕ) (n value : ℕ) {before after : List ℕ} {at end : ℕ}
-    → Written (name ++ tab ∷ octal n value ++ line_feed ∷ []) before at after end → end ≡ at + (length name + n + 2)
-register_end name n value {at = at} w = w.place ∙ ap (λ (k : ℕ). at + k) (register_size name n value)
+pub register_end : (before name : List ℕ) (n value : ℕ) {after : List ℕ} → after ≡ before ++ (name ++ tab ∷ octal n value ++ line_feed ∷ [])
+    → length after ≡ length before + (length name + n + 2)
+register_end before name n value w =
+    drafted_size before (name ++ tab ∷ octal n value ++ line_feed ∷ []) w ∙ ap (λ (k : ℕ). length before + k) (register_size name n value)
 
 -- the bytes of a register's line by the table, and of the lines of all its registers
 abbrev pub line_size : Named → ℕ

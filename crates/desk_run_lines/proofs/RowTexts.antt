@@ -14,7 +14,7 @@ use Rattle.word.specs.Choice.{pick}
 use Rattle.page.specs.Text.{decimal_in, decimal}
 use Rattle.page.proofs.Numbers.{decimal_length}
 use Rattle.characters.specs.Characters.{run, same}
-use Rattle.characters.specs.Ascii.{line_feed}
+use Rattle.characters.specs.Ascii.{ascii, tab, line_feed}
 use Rattle.text_fields.specs.Fields.{before, after, Line, lines, field}
 use Rattle.text_fields.specs.Rests.{first_line}
 use Rattle.text_fields.proofs.Lines.{first_line_lem}
@@ -48,7 +48,7 @@ module _ (rest : List ℕ) (some : 0 < length rest) where
   row_passed false left e f = rw (first_line_lem rest some, no_row (first_line rest) (lines (after line_feed rest)) e)
 
 -- with all lines passed
-pub row_none : (rest : List ℕ) (left : ℕ) → length rest ≤ 0 → rest ≡ get_or (row_texts (lines rest)) left []
+pub row_none : (rest : List ℕ) (left : ℕ) → length rest ≤ 0 → [] ≡ get_or (row_texts (lines rest)) left []
 unfolding row_texts lines
 row_none [] left h = refl
 row_none (b ∷ rest) left h = absurd (omega arith)
@@ -104,6 +104,18 @@ row_line_size text k s h =
     let row = s.row k in
     let label = s.label k in
     simp length-append (omega arith)
+
+-- ---- lines by their parts
+
+pub at_line_lem : (label : List ℕ) (row : ℕ) → at_line label row ≡ ascii "at\t" ++ (label ++ (tab ∷ (decimal row ++ line_feed ∷ [])))
+unfolding at_line
+at_line_lem label row = ap (λ (l : List ℕ). ascii "at\t" ++ l) (append_assoc label (tab ∷ decimal row) (line_feed ∷ []))
+
+pub row_line_lem : (text : List ℕ) (k : ℕ) → row_line text k ≡ decimal k ++ (tab ∷ (row_of k text ++ (line_feed ∷ label_line text (row_of k text))))
+unfolding row_line
+row_line_lem text k =
+    append_assoc (decimal k ++ tab ∷ row_of k text) (line_feed ∷ []) (label_line text (row_of k text))
+    ∙ append_assoc (decimal k) (tab ∷ row_of k text) (line_feed ∷ label_line text (row_of k text))
 
 -- ---- the line of a label
 

@@ -1,11 +1,12 @@
 -- The registers after a run, each on a line. The sentences quoted are README's, of "Explain a run", and document 01's.
 -- Assumes nothing.
-use Rattle.std.specs.Prelude.{Bool, true, false, List, [], ◌∷◌, ◌++◌, ℕ, length, drop}
+use Rattle.std.specs.Prelude.{List, [], ◌∷◌, ◌++◌, ℕ, length, drop}
 use Rattle.characters.specs.Ascii.{tab, line_feed}
 use Rattle.page.specs.Text.{octal}
 use Rattle.characters.specs.Named.{Named}
 use Rattle.machine_state.specs.Registers.{digits_of}
-use Rattle.shipped_rows.specs.Variant.{Variant, plain, devices, registers_of}
+use Rattle.shipped_rows.specs.Variant.{Variant, registers_of}
+pub use Rattle.shipped_rows.specs.Variant.{variant_of}
 use Rattle.shipped_rows.specs.Shipped.{shipped}
 
 -- "its name and the value that the run leaves, in octal with a digit for every three bits begun"
@@ -17,11 +18,6 @@ abbrev pub register_lines : List Named → List ℕ → List ℕ
 register_lines [] vs = []
 register_lines (r ∷ rs) [] = []
 register_lines (r ∷ rs) (v ∷ vs) = register_line r v ++ register_lines rs vs
-
--- the machine with devices, or without
-abbrev pub variant_of : Bool → Variant
-variant_of true = devices
-variant_of false = plain
 
 -- "A shipped description's registers that the emulator lacks are its working registers": those after the machine's
 abbrev pub working_registers : Variant → List Named

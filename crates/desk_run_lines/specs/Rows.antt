@@ -1,6 +1,6 @@
 -- The rows of a description, and the labels that they name. The sentences quoted are README's, of "Explain a run", and document 01's.
 -- Assumes nothing.
-use Rattle.std.specs.Prelude.{List, [], ◌∷◌, ◌++◌, Bool, true, false, ℕ, suc, ◌-◌, get_or}
+use Rattle.std.specs.Prelude.{List, [], ◌∷◌, ◌++◌, Bool, true, false, ℕ, suc, ◌-◌, get_or, Option, Some, None}
 use Rattle.word.specs.Choice.{pick}
 use Rattle.characters.specs.Ascii.{ascii, tab, line_feed}
 use Rattle.page.specs.Text.{decimal}
@@ -8,8 +8,6 @@ use Rattle.characters.specs.Characters.{same}
 use Rattle.text_fields.specs.Fields.{Line, lines, field}
 use Rattle.text_declaration.specs.Lines.{go_word}
 use Rattle.text_targets.specs.Targets.{is_row, passes}
-use Rattle.text_targets.specs.declared.Target.{Target}
-use Rattle.text_targets.specs.declared.Target.TheVariants.{Passes, Missing}
 
 -- "`do` and `go` lines are rows", as for the reader
 unfoldable pub row_texts : List Line → List (List ℕ)
@@ -29,9 +27,9 @@ abbrev pub label_of : List ℕ → List ℕ
 label_of line = field 2 line
 
 -- "the number of the first row below that label": one more than the rows above it, as they are numbered from 1. No row has the number 0, for a label that isn't there.
-abbrev pub row_after : Target → ℕ
-row_after (Passes above) = suc above
-row_after Missing = 0
+abbrev pub row_after : Option ℕ → ℕ
+row_after (Some above) = suc above
+row_after None = 0
 
 abbrev pub row_below : List ℕ → List ℕ → ℕ
 row_below label text = row_after (passes label (lines text))

@@ -1,7 +1,6 @@
--- The bytes that a page needs for the lines of registers and rows, and what the function that lists rows promises of the page. A reader need not believe these.
+-- The bytes that a draft needs for the lines of registers and rows. A reader need not believe these.
 -- Assumes nothing.
-use Rattle.std.specs.Prelude.{List, ℕ, ◌+◌, ◌*◌, ◌≤◌, length}
-use Rattle.page.specs.Written.{Written}
+use Rattle.std.specs.Prelude.{List, ℕ, ◌≤◌, length}
 use Rattle.text_limits.specs.Limits.{most_bytes}
 use Rattle.desk_run_lines.specs.Rows.{row_of, label_line}
 
@@ -32,8 +31,3 @@ pub record Short (text : List ℕ) : Type 0 where
   pub size : length text ≤ most_bytes
   pub row : (k : ℕ) → length (row_of k text) ≤ row_text_bytes
   pub label : (k : ℕ) → length (label_line text (row_of k text)) ≤ label_line_bytes
-
--- the lines of n rows stand on the page from a place on, to the place `end`, with room for each
-pub record Listed (text before : List ℕ) (at n : ℕ) (after : List ℕ) (end : ℕ) : Type 0 where
-  pub written : Written text before at after end
-  pub room : end ≤ at + row_line_bytes * n

@@ -5,7 +5,6 @@ ghost use Rattle.machine_state.specs.Registers.{values};
 ghost use Rattle.shipped_rows.specs.Variant.{registers_of, values_of};
 ghost use Rattle.characters.specs.Ascii.{tab, line_feed};
 ghost use Rattle.page.specs.Text.{octal};
-ghost use Rattle.page.specs.Written.{Written};
 ghost use Rattle.desk_run_lines.specs.Registers.{register_lines, variant_of, working_registers, working_values};
 ghost use Rattle.desk_run_lines.specs.Sizes.{register_lines_bytes, working_lines_bytes, page_bytes};
 
@@ -15,16 +14,16 @@ use desk_registers::DESK_REGISTERS;
 use devices::Devices;
 use machine_state::Machine;
 use machine_state::registers::MACHINE_REGISTERS;
-use page::{put_byte, put_field, put_text};
+use page::Draft;
 
 // A register's line: its name, TAB, its value in n octal digits.
-fn put_register(page: &mut [u8; PAGE_BYTES], at: usize, name: &[u8], n: u64, value: u16) -> usize
-    requires { at + length name.now + n + 2 ≤ page_bytes }
-    ensures { Written (name.now ++ tab ∷ octal n value ++ line_feed ∷ []) page.old at page.new result }
+fn put_register(draft: &mut Draft<PAGE_BYTES>, name: &[u8], n: u64, value: u16)
+    requires { length draft.old + length name.now + n + 2 ≤ page_bytes }
+    ensures { draft.new ≡ draft.old ++ (name.now ++ tab ∷ octal n value ++ line_feed ∷ []) }
 {
-    let tab = put_text(page, at, name);
-    let end = put_field(page, tab, n, value as u64);
-    put_byte(page, end, LINE_FEED)
+    draft.put_text(name);
+    draft.put_field(n, value as u64);
+    draft.put_byte(LINE_FEED);
 }
 
 // How many registers the machine has, with devices or without.
@@ -49,49 +48,31 @@ fn values_of(m: Machine, c: Devices) -> [u16; DESK_REGISTERS]
 }
 
 // The machine registers, those of the devices among them where there are devices.
-pub fn put_registers(
-    page: &mut [u8; PAGE_BYTES],
-    at: usize,
-    devices: bool,
-    m: Machine,
-    c: Devices,
-) -> usize
-    requires { at + register_lines_bytes ≤ page_bytes }
-    ensures { Written (register_lines (registers_of (variant_of devices)) (values_of (variant_of devices) m c)) page.old at page.new result }
+pub fn put_registers(draft: &mut Draft<PAGE_BYTES>, devices: bool, m: Machine, c: Devices)
+    requires { length draft.old + register_lines_bytes ≤ page_bytes }
+    ensures { draft.new ≡ draft.old ++ register_lines (registers_of (variant_of devices)) (values_of (variant_of devices) m c) }
 {
     let all = values_of(m, c);
     let n = count(devices);
-    let mut end = at;
-    let mut k = 0;
-    while k < n {
+    for k in 0..n {
         let register = desk_registers::register_at(k);
-        let letters = register.letters;
         let digits = machine_state::registers::digits_of(register.width);
-        end = put_register(
-            page,
-            end,
-            characters::part(&letters, 0, register.size),
-            digits as u64,
-            all[k],
-        );
-        k += 1;
+        put_register(draft, register.name, digits as u64, all[k]);
     }
-    end
 }
 
 // The working registers, by the values of all the registers of the description with devices or without.
 pub fn put_working(
-    page: &mut [u8; PAGE_BYTES],
-    at: usize,
+    draft: &mut Draft<PAGE_BYTES>,
     devices: bool,
     values: [u16; text_limits::MOST_REGISTERS],
-) -> usize
-    requires { at + working_lines_bytes ≤ page_bytes }
-    ensures { Written (register_lines (working_registers (variant_of devices)) (working_values (variant_of devices) values)) page.old at page.new result }
+)
+    requires { length draft.old + working_lines_bytes ≤ page_bytes }
+    ensures { draft.new ≡ draft.old ++ register_lines (working_registers (variant_of devices)) (working_values (variant_of devices) values) }
 {
     let first = count(devices);
-    let last_pc = put_register(page, at, b"i", 4, values[first]);
-    let eadd = put_register(page, last_pc, b"last.pc", 4, values[first + 1]);
-    let skip = put_register(page, eadd, b"eadd", 4, values[first + 2]);
-    put_register(page, skip, b"skip", 1, values[first + 3])
+    put_register(draft, b"i", 4, values[first]);
+    put_register(draft, b"last.pc", 4, values[first + 1]);
+    put_register(draft, b"eadd", 4, values[first + 2]);
+    put_register(draft, b"skip", 1, values[first + 3]);
 }

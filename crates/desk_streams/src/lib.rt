@@ -1,13 +1,17 @@
-// What a program asks of its streams: a read that answers a count, the line that says what failed, and the status to end with.
+// What a program asks of its streams: a read, all of an input scanned, the line that says what failed, and the status to end with.
 #![tactic(auto)]
 
-ghost use Rattle.std.specs.Prelude.{◌≡◌, ◌≢◌, ◌↔◌, ◌<◌, pos, ◌≤ℤ◌, ◌<ℤ◌, length, take, IsSome, OnOk, IfErr};
+ghost use Rattle.std.specs.Prelude.{◌≡◌, ◌≢◌, ◌<◌, ◌≤◌, length, IfOk, OnOk, IfErr};
 ghost use Rattle.std.specs.Io.{StartsWith};
 ghost use Rattle.std.specs.Io.KnownBytes.{Consumes, IsAtEnd};
 ghost use Rattle.std.specs.IoError.{error_kind};
 ghost use Rattle.std.specs.Process.{exit_status};
-ghost use Rattle.io.specs.Counts.{clamp_len};
+ghost use Rattle.desk_image.specs.Read.{bytes_read};
+ghost use Rattle.desk_image.specs.Scan.{scan_byte, kept_by};
+ghost use Rattle.desk_streams.specs.Scans.{Scans};
 
+use desk_image::scan::{Lines, Scanner};
+use state::MEMORY_WORDS;
 use std::alloc::Global;
 use std::io::{Error, ErrorKind, Print, Read, Result};
 use std::process::ExitCode;
@@ -15,31 +19,44 @@ use std::process::ExitCode;
 // The status of a program whose reader has left, as a shell says it of one that the signal PIPE ended.
 const READER_LEFT: u8 = 141;
 
-// What a read answered: how many bytes it put at the start of the buffer, or -1 and why it failed.
-#[derive(Clone, Copy)]
-pub struct Got {
-    pub count: isize,
-    pub error: Option<Error>,
+// Reads once: how many bytes it put at the start of the buffer.
+pub fn read<R: Read>(from: &mut R, buffer: &mut [u8]) -> Result<usize>
+    ensures bound { IfOk result (λ n. n ≤ length buffer.new) }
+    ensures bytes { Consumes (R.remaining from.old) (R.remaining from.new) (bytes_read result buffer.new) }
+    ensures end { IfOk result (λ n. n ≡ 0 → 0 < length buffer.new → IsAtEnd (R.remaining from.new)) }
+{
+    from.read(buffer)
 }
 
-// Reads once.
-pub fn read<R: Read>(from: &mut R, buffer: &mut [u8]) -> Got
-    ensures bound { result.count ≤ℤ pos (length buffer.new) }
-    ensures failed { result.count <ℤ pos 0 ↔ IsSome result.error }
-    ensures bytes { Consumes (R.remaining from.old) (R.remaining from.new)
-        (take (clamp_len result.count (length buffer.new)) buffer.new) }
-    ensures end { result.count ≡ pos 0 → 0 < length buffer.new → IsAtEnd (R.remaining from.new) }
+// Reads once, and scans what was read. Answers as the read did.
+fn read_some<R: Read, L: Lines<N>, const N: usize>(
+    from: &mut R,
+    memory: &mut [u16; MEMORY_WORDS],
+    s: &mut Scanner<L, N>,
+) -> Result<usize>
+    ensures { Scans (scan_byte L.reading) (kept_by L.made s.old memory.old) (kept_by L.made s.new memory.new)
+        (R.remaining from.old) (R.remaining from.new) }
 {
-    match from.read(buffer) {
-        Ok(n) => Got {
-            count: n as isize,
-            error: None,
-        },
-        Err(e) => Got {
-            count: -1,
-            error: Some(e),
-        },
+    let mut buffer = io::large_buffer();
+    let got = read(from, &mut buffer);
+    s.after_read(memory, got, &buffer)
+}
+
+// Reads to the end, or until a read fails, and scans what was read. A proved loop has to end, so it counts its reads, up to a number that no run uses up.
+pub fn read_all<R: Read, L: Lines<N>, const N: usize>(
+    from: &mut R,
+    memory: &mut [u16; MEMORY_WORDS],
+    s: &mut Scanner<L, N>,
+) -> Result<()>
+    ensures { Scans (scan_byte L.reading) (kept_by L.made s.old memory.old) (kept_by L.made s.new memory.new)
+        (R.remaining from.old) (R.remaining from.new) }
+{
+    for _ in 0..u64::MAX {
+        if read_some(from, memory, s)? == 0 {
+            break;
+        }
     }
+    Ok(())
 }
 
 // The status after a write, where nobody is told that it failed.

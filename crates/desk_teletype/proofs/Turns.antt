@@ -13,12 +13,11 @@ use borrow.Author.Tests.{ltb-false}
 use Rattle.laws.proofs.Tests.{by_case}
 use Rattle.word.specs.Choice.{on}
 use Rattle.state.specs.Checks.{check_state}
-use Rattle.state.specs.Refusals.{number_of}
-use Rattle.state.specs.declared.Reason.{Reason}
+use Rattle.state.specs.Refusals.{number_of, Verdict}
 use Rattle.state.specs.declared.Refusal.{Refusal}
 use Rattle.state.specs.declared.Refusal.TheVariants.{MemoryLength, Word, Register, Budget, RowList}
-use Rattle.state.specs.declared.Verdict.{Verdict}
-use Rattle.state.specs.declared.Verdict.TheVariants.{Fit, Unfit}
+use Rattle.std.specs.Prelude.{Ok, Err}
+use Rattle.std.specs.declared.result.Result.{Result}
 use Rattle.runs.specs.Run.{Ended}
 use Rattle.runs.proofs.Counts.{steps_within}
 use Rattle.devices.specs.declared.Devices.{Devices}
@@ -28,8 +27,7 @@ use Rattle.machine_state.specs.declared.Machine.{Machine}
 use Rattle.machine_state.specs.State.{start}
 use Rattle.machine_state.specs.Registers.{widths, values}
 use Rattle.machine_console.specs.Console.{Console, console, running, turn, run}
-use Rattle.emulator.specs.declared.Answer.{Answer}
-use Rattle.emulator.specs.declared.Answer.TheVariants.{Ran, Refused}
+use Rattle.emulator.specs.declared.Ended as answer
 use Rattle.emulator.specs.declared.DeviceAnswer.{DeviceAnswer}
 use Rattle.emulator.specs.Emulate.{report, DeviceReport, device_report, finished_devices, refused_devices, emulate_devices}
 use Rattle.desk_teletype.specs.declared.Sitting.{Sitting}
@@ -46,9 +44,9 @@ module _ (m : Machine) (c : Devices) (memory : List ℕ) (budget : ℕ) (input o
   unfolding emulate_devices
   by_answer P ran-holds refused-holds = go (check_state (widths ++ device_widths) (values m ++ device_values c) memory budget)
     where
-      go : (v : Verdict) → P (elim v [ Fit ↦ finished_devices input output ran | Unfit why ↦ refused_devices why m c memory output ])
-      go Fit = ran-holds
-      go (Unfit why) = refused-holds why
+      go : (v : Verdict) → P (elim v [ Ok fit ↦ finished_devices input output ran | Err why ↦ refused_devices why m c memory output ])
+      go (Ok fit) = ran-holds
+      go (Err why) = refused-holds why
 
   steps_few : (emulate_devices m c memory budget input output).report.steps ≤ budget
   steps_few =
@@ -100,7 +98,7 @@ module _ (s : Sitting) (memory input output : List ℕ) where
 
   -- the emulator's answer, and what it leaves of the memory and the output
   module _ (e : DeviceAnswer) (memory' output' : List ℕ) (same : device_report s.machine e memory' output' ≡ o) (kept : length output' ≡ length output) where
-    abbrev reported : Answer → DeviceReport
+    abbrev reported : Result answer.Ended Refusal → DeviceReport
     reported a =
         record {
           report = report s.machine a memory';
@@ -108,10 +106,10 @@ module _ (s : Sitting) (memory input output : List ℕ) where
           exchange = record { read = e.read; printed = e.printed; output = output' };
         }
 
-    known : {a : Answer} → e.answer ≡ a → reported a ≡ o
+    known : {a : Result answer.Ended Refusal} → e.answer ≡ a → reported a ≡ o
     known t = ap reported (sym t) ∙ same
 
-    turned : {a : Answer} → e.answer ≡ a → (r : Turn) → r ≡ turned_by s o → (reported a).report.memory ≡ memory' → Turned s memory input output r memory' output'
+    turned : {a : Result answer.Ended Refusal} → e.answer ≡ a → (r : Turn) → r ≡ turned_by s o → (reported a).report.memory ≡ memory' → Turned s memory input output r memory' output'
     turned t r is left =
         let paper : output' ≡ o.exchange.output = ap (λ (d : DeviceReport). d.exchange.output) (known t) in
         record {
@@ -123,21 +121,21 @@ module _ (s : Sitting) (memory input output : List ℕ) where
           printed = rw (is, kept) (turn_printed (ap length (sym paper) ∙ kept));
         }
 
-    module _ (after : Machine) (why : Reason) (steps : ℕ) (t : e.answer ≡ Ran after why steps) where
-      pub steps_left : steps ≤ s.left
-      steps_left = let same-steps : steps ≡ o.report.steps = ap (λ (d : DeviceReport). d.report.steps) (known t) in omega (arith, turn_steps_lem)
+    module _ (ended : answer.Ended) (t : e.answer ≡ Ok ended) where
+      pub steps_left : ended.steps ≤ s.left
+      steps_left = let same-steps : ended.steps ≡ o.report.steps = ap (λ (d : DeviceReport). d.report.steps) (known t) in omega (arith, turn_steps_lem)
 
       pub turned_ran : Turned s memory input output
           (record {
-            sitting = record { machine = after; devices = e.devices; left = s.left - steps };
+            sitting = record { machine = ended.machine; devices = e.devices; left = s.left - ended.steps };
             read = e.read;
             printed = e.printed;
-            more = on after.run && on (s.left - steps);
+            more = on ended.machine.run && on (s.left - ended.steps);
           })
           memory' output'
       turned_ran = turned t _ (ap (turned_by s) (known t)) refl
 
-    pub turned_refused : (why : Refusal) → e.answer ≡ Refused why
+    pub turned_refused : (why : Refusal) → e.answer ≡ Err why
         → Turned s memory input output
         (record { sitting = record { machine = s.machine; devices = e.devices; left = s.left }; read = e.read; printed = e.printed; more = false })
         memory' output'

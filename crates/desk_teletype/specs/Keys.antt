@@ -1,6 +1,6 @@
 -- Keys in a buffer: when some are fetched, what a read leaves, and what the machine takes.
 -- Assumes nothing.
-use Rattle.std.specs.Prelude.{◌≡◌, Bool, true, ◌&&◌, ◌||◌, List, ℕ, ◌+◌, ◌-◌, ◌≤◌, eqb, take, drop}
+use Rattle.std.specs.Prelude.{◌≡◌, Bool, true, ◌&&◌, ◌||◌, List, ℕ, ◌+◌, ◌-◌, ◌≤◌, eqb, take, drop, min, Result, Ok, Err}
 use Rattle.word.specs.Choice.{on}
 use Rattle.desk_teletype.specs.declared.keys.Keys.{Keys}
 
@@ -15,6 +15,11 @@ none = record { at = 0; left = 0; more = true }
 -- the machine has taken all, and more may be typed
 abbrev pub wanted : Keys → Bool
 wanted k = eqb k.left 0 && k.more
+
+-- how many bytes a read put into the buffer: none where it failed
+abbrev pub bytes_read : {E : Type 0} → Result ℕ E → ℕ
+bytes_read (Ok n) = min n key_bytes
+bytes_read (Err e) = 0
 
 -- after a read of n bytes: where it read nothing, the input has ended if it is no terminal
 abbrev pub typed : ℕ → Bool → Keys

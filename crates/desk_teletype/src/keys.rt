@@ -1,7 +1,8 @@
 // The keys that were typed: where those stand in a buffer that the machine has not taken.
 ghost use Rattle.std.specs.Prelude.{◌≡◌, ◌+◌, ◌≤◌, length};
-ghost use Rattle.io.specs.Counts.{clamp_len};
-ghost use Rattle.desk_teletype.specs.Keys.{key_bytes, none, typed, wanted as isWanted, unread as unreadOf, taken as taken_of, Kept};
+ghost use Rattle.desk_teletype.specs.Keys.{key_bytes, none, bytes_read, typed, wanted as isWanted, unread as unreadOf, taken as taken_of, Kept};
+
+use std::io;
 
 // The bytes of the buffer.
 pub const KEY_BYTES: usize = 65536;
@@ -32,11 +33,11 @@ pub fn wanted(k: Keys) -> bool
     (k.left == 0) & k.more
 }
 
-// The keys after a read that answered `got`. A read of nothing says at a terminal that nothing has been typed yet, elsewhere that the input has ended.
-pub fn after_read(got: isize, buffer: &[u8; KEY_BYTES], terminal: bool) -> Keys
-    ensures { Kept (typed (clamp_len got key_bytes) terminal) result }
+// The keys after a read, none where it failed. A read of nothing says at a terminal that nothing has been typed yet, elsewhere that the input has ended.
+pub fn after_read(read: io::Result<usize>, terminal: bool) -> Keys
+    ensures { Kept (typed (bytes_read read) terminal) result }
 {
-    let n = io::count(got, buffer);
+    let n = read.unwrap_or(0).min(KEY_BYTES);
     Keys {
         at: 0,
         left: n,

@@ -8,7 +8,6 @@ ghost use Rattle.std.specs.Prelude.{◌≡◌};
 ghost use Rattle.desk_teletype.specs.Sitting.{portion as steps_of, opening, Turned};
 
 use devices::Devices;
-use emulator::Answer;
 use machine_state::Machine;
 use state::MEMORY_WORDS;
 
@@ -70,11 +69,11 @@ pub fn go_on(memory: &mut [u16; MEMORY_WORDS], s: Sitting, input: &[u8], output:
     let m = s.machine;
     let c = s.devices;
     let end = emulator::emulate_devices(memory, m, c, portion(s.left), input, output);
-    let answer = end.answer;
     let devices = end.devices;
-    match answer {
-        Answer::Ran(machine, _, steps) => {
-            let left = s.left - steps;
+    match end.answer {
+        Ok(ended) => {
+            let machine = ended.machine;
+            let left = s.left - ended.steps;
             Turn {
                 sitting: Sitting {
                     machine,
@@ -86,17 +85,15 @@ pub fn go_on(memory: &mut [u16; MEMORY_WORDS], s: Sitting, input: &[u8], output:
                 more: (machine.run != 0) & (left != 0),
             }
         }
-        Answer::Refused(_) => {
-            Turn {
-                sitting: Sitting {
-                    machine: m,
-                    devices,
-                    left: s.left,
-                },
-                read: end.read,
-                printed: end.printed,
-                more: false,
-            }
-        }
+        Err(_) => Turn {
+            sitting: Sitting {
+                machine: m,
+                devices,
+                left: s.left,
+            },
+            read: end.read,
+            printed: end.printed,
+            more: false,
+        },
     }
 }

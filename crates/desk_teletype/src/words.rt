@@ -7,28 +7,22 @@ ghost use Rattle.desk_teletype.specs.Words.{budget_of};
 
 use crate::Sitting;
 use characters::Class;
+use page::Draft;
 
 // The bytes of a page that has room for the last line.
 pub const LINE_BYTES: usize = 32;
 
 const BUDGET_DIGITS: usize = 16;
 
-// A budget's steps, or that a text is none.
-#[derive(Clone, Copy)]
-pub enum Budget {
-    Steps(u64),
-    Unfit,
-}
-
 // The budget that a text says: a decimal number of 1 to 16 digits.
-pub fn budget_of(text: &[u8]) -> Budget
+pub fn budget_of(text: &[u8]) -> Option<u64>
     ensures { result ≡ budget_of text.now }
 {
     let n = text.len();
     if (0 < n) & (n <= BUDGET_DIGITS) & desk_image::is_digits(Class::Decimal, n, text) {
-        Budget::Steps(text_constants::digits_value(text, 0, n, 10))
+        Some(text_constants::digits_value(text, 0, n, 10))
     } else {
-        Budget::Unfit
+        None
     }
 }
 
@@ -38,5 +32,7 @@ pub fn put_end(page: &mut [u8; LINE_BYTES], s: Sitting, budget: u64) -> usize
     ensures { Page (end_line (budget - s.left) (reason_of s.machine.run)) page.old page.new result }
 {
     let m = s.machine;
-    desk_last_lines::put_end_line(page, 0, budget - s.left, m.run as u64, true)
+    let mut draft: Draft<LINE_BYTES> = Draft::new();
+    desk_last_lines::put_end_line(&mut draft, budget - s.left, m.run as u64, true);
+    draft.copy_to(page)
 }

@@ -1,13 +1,16 @@
 -- Numbers written out: one digit more, and how many there are.
 -- Assumes nothing.
-use mathlib.Core.Path.{◌≡◌, refl}
+use mathlib.Core.Path.{◌≡◌, refl, sym, ap, ap₂, ◌∙◌}
 use mathlib.Core.Bool.{Bool, true, false}
-use mathlib.Core.List.{[], ◌∷◌, ◌++◌}
+use mathlib.Core.List.{List, [], ◌∷◌, ◌++◌}
 use Prim.Native.Nat.{ℕ, zero, suc, ◌+◌, ◌-◌, ◌/◌, ◌%◌, ◌^◌, ◌≤◌, ◌<◌}
 use native.Mathlib.Nat.{not-suc-le-zero}
 use native.Mathlib.Numerals.{sub-one, add-one}
 use native.Mathlib.Omega.{arith}
-use lib.ListN.{length, length-append}
+use lib.ListN.{length, take, drop, set, length-append, length-set}
+use Rattle.std.proofs.Common.{length-take-le}
+use Rattle.std.proofs.Math.Seq.{drop-length}
+use Rattle.std.proofs.lemmas.List.{drop-set}
 use lib.Dec.{ltb}
 use borrow.Author.Tests.{lt-ltb, le-ltb, ltb-true, ltb-false}
 use Rattle.characters.specs.Ascii.{digit}
@@ -22,6 +25,17 @@ pub octal_length : (n x : ℕ) → length (octal n x) ≡ n
 unfolding octal
 octal_length zero x = refl
 octal_length (suc n) x = rw (length-append (octal n (x / 8)) (digit (x % 8) ∷ []), octal_length n (x / 8)) (add-one n)
+
+-- the last digit in the last place, and the others before it
+pub octal_placed : (l : List ℕ) (x d : ℕ) {front : List ℕ} → 0 < length l → d ≡ digit (x % 8)
+    → front ≡ octal (length (take (length l - 1) (set l (length l - 1) d))) (x / 8)
+    → front ++ drop (length l - 1) (set l (length l - 1) d) ≡ octal (length l) x
+octal_placed l x d h e f =
+    let n = length l - 1 in
+    let size : length (take n (set l n d)) ≡ n = length-take-le n (set l n d) (omega (arith, length-set l n d)) in
+    let last : drop n (set l n d) ≡ digit (x % 8) ∷ [] =
+    drop-set l n d (omega arith) ∙ ap₂ (λ (b k : ℕ). b ∷ drop k l) e (omega arith) ∙ ap (λ (k : List ℕ). digit (x % 8) ∷ k) (drop-length l) in
+    ap₂ (λ (a b : List ℕ). a ++ b) (f ∙ ap (λ (k : ℕ). octal k (x / 8)) size) last ∙ sym (octal_more (length l) x h)
 
 -- x + 1 digits are enough, and so is every greater number
 enough : (m n x : ℕ) → x < m → x < n → decimal_in m x ≡ decimal_in n x

@@ -1,6 +1,6 @@
 -- Numbers as the programs write them.
 -- Assumes nothing.
-use Rattle.std.specs.Prelude.{List, [], ◌∷◌, ◌++◌, true, false, ℕ, zero, suc, ◌+◌, ◌/◌, ◌%◌, ltb}
+use Rattle.std.specs.Prelude.{List, [], ◌∷◌, ◌++◌, true, false, ℕ, zero, suc, ◌/◌, ◌%◌, ltb}
 use Rattle.characters.specs.Ascii.{digit}
 
 -- the last n octal digits of x: all of them where x has no more

@@ -2,26 +2,17 @@
 // or the image's first unfit line, goes to standard error.
 #![tactic(auto)]
 
-ghost use Rattle.std.specs.Prelude.{◌+◌, ◌≤◌, ◌↔◌, length, IsTrue, IsSome};
-ghost use Rattle.desk_image.specs.Scan.{words as image_words, kept, Reached};
+ghost use Rattle.std.specs.Prelude.{◌+◌, ◌≤◌, IfOk};
 ghost use Rattle.desk_teletype.specs.Keys.{key_bytes};
 
-use desk_image::{Progress, Scanner};
 use desk_teletype::keys::{KEY_BYTES, Keys};
-use desk_teletype::words::{Budget, LINE_BYTES};
+use desk_teletype::words::LINE_BYTES;
 use desk_teletype::{Sitting, keys, words};
 use state::MEMORY_WORDS;
 use std::env::Env;
 use std::fs::{File, Files};
 use std::io::{Error, ErrorKind, IsTerminal, Print, Read};
 use std::process::ExitCode;
-
-// The scanner after a read of the image, and why the read failed.
-#[derive(Clone, Copy)]
-struct Chunk {
-    progress: Progress,
-    error: Option<Error>,
-}
 
 // What the keyboard or the printer failed by.
 #[derive(Clone, Copy)]
@@ -30,52 +21,12 @@ enum Fault {
     Printer(Error),
 }
 
-// A run so far: the keys that the machine has not taken, whether another turn follows, and what could not be read or written.
+// A run so far: the keys that the machine has not taken, and whether another turn follows.
 #[derive(Clone, Copy)]
 struct Course {
     sitting: Sitting,
     keys: Keys,
     more: bool,
-    fault: Option<Fault>,
-}
-
-// The keys after a read of the keyboard, and why it failed.
-#[derive(Clone, Copy)]
-struct Fetched {
-    keys: Keys,
-    error: Option<Error>,
-}
-
-// Reads the image once.
-fn read_some<R: Read>(image: &mut R, memory: &mut [u16; MEMORY_WORDS], s: Scanner) -> Chunk
-    requires { Reached image_words (kept s memory.old) }
-    ensures reached { Reached image_words (kept result.progress.scanner memory.new) }
-    ensures failed { IsTrue result.progress.failed ↔ IsSome result.error }
-{
-    let mut buffer = io::large_buffer();
-    let got = desk_streams::read(image, &mut buffer);
-    let progress = desk_image::after_read(memory, s, got.count, &buffer);
-    Chunk {
-        progress,
-        error: got.error,
-    }
-}
-
-// Reads the image to its end. A proved loop has to end, so it counts its reads, up to a number that no run uses up.
-fn read_all<R: Read>(image: &mut R, memory: &mut [u16; MEMORY_WORDS]) -> Chunk
-    ensures reached { Reached image_words (kept result.progress.scanner memory.new) }
-    ensures failed { IsTrue result.progress.failed ↔ IsSome result.error }
-{
-    let first = desk_image::begin(memory);
-    let mut last = read_some(image, memory, first);
-    for _ in 0..u64::MAX {
-        if !last.progress.more {
-            break;
-        }
-        let s = last.progress.scanner;
-        last = read_some(image, memory, s);
-    }
-    last
 }
 
 // Reads the keyboard once, where keys are wanted.
@@ -84,21 +35,18 @@ fn fetch<K: Read>(
     buffer: &mut [u8; KEY_BYTES],
     k: Keys,
     terminal: bool,
-) -> Fetched
+) -> Result<Keys, Fault>
     requires { k.at + k.left ≤ key_bytes }
-    ensures { result.keys.at + result.keys.left ≤ key_bytes }
+    ensures { IfOk result (λ keys. keys.at + keys.left ≤ key_bytes) }
 {
     if !keys::wanted(k) {
-        return Fetched {
-            keys: k,
-            error: None,
-        };
+        return Ok(k);
     }
-    let got = desk_streams::read(keyboard, buffer);
-    let next = keys::after_read(got.count, buffer, terminal);
-    Fetched {
-        keys: next,
-        error: got.error,
+    let read = desk_streams::read(keyboard, buffer);
+    let next = keys::after_read(read, terminal);
+    match read {
+        Ok(_) => Ok(next),
+        Err(e) => Err(Fault::Keyboard(e)),
     }
 }
 
@@ -109,24 +57,20 @@ fn turn<P: Print>(
     buffer: &[u8; KEY_BYTES],
     k: Keys,
     s: Sitting,
-) -> Course
+) -> Result<Course, Fault>
     requires { k.at + k.left ≤ key_bytes }
-    ensures fact_1 { result.keys.at + result.keys.left ≤ key_bytes }
-    ensures fact_2 { result.sitting.left ≤ s.left }
+    ensures keys { IfOk result (λ c. c.keys.at + c.keys.left ≤ key_bytes) }
+    ensures left { IfOk result (λ c. c.sitting.left ≤ s.left) }
 {
     let mut paper = io::buffer();
     let t = desk_teletype::go_on(memory, s, keys::unread(buffer, k), &mut paper);
-    let n = t.printed;
-    let fault = match printer.write_all(&paper[..n]) {
-        Ok(()) => None,
-        Err(e) => Some(Fault::Printer(e)),
-    };
-    let after = t.sitting;
-    Course {
-        sitting: after,
-        keys: keys::taken(k, t.read),
-        more: t.more & fault.is_none(),
-        fault,
+    match printer.write_all(&paper[..t.printed]) {
+        Ok(()) => Ok(Course {
+            sitting: t.sitting,
+            keys: keys::taken(k, t.read),
+            more: t.more,
+        }),
+        Err(e) => Err(Fault::Printer(e)),
     }
 }
 
@@ -138,22 +82,12 @@ fn next<K: Read, P: Print>(
     buffer: &mut [u8; KEY_BYTES],
     c: Course,
     terminal: bool,
-) -> Course
+) -> Result<Course, Fault>
     requires { c.keys.at + c.keys.left ≤ key_bytes }
-    ensures { (result.keys.at + result.keys.left ≤ key_bytes) × (result.sitting.left ≤ c.sitting.left) }
+    ensures { IfOk result (λ d. (d.keys.at + d.keys.left ≤ key_bytes) × (d.sitting.left ≤ c.sitting.left)) }
 {
-    let s = c.sitting;
-    let f = fetch(keyboard, buffer, c.keys, terminal);
-    let k = f.keys;
-    match f.error {
-        Some(e) => Course {
-            sitting: s,
-            keys: k,
-            more: false,
-            fault: Some(Fault::Keyboard(e)),
-        },
-        None => turn(printer, memory, buffer, k, s),
-    }
+    let k = fetch(keyboard, buffer, c.keys, terminal)?;
+    turn(printer, memory, buffer, k, c.sitting)
 }
 
 // The turns of a budget, counted as the reads are.
@@ -162,8 +96,8 @@ fn run<K: Read + IsTerminal, P: Print>(
     printer: &P,
     memory: &mut [u16; MEMORY_WORDS],
     budget: u64,
-) -> Course
-    ensures { result.sitting.left ≤ budget }
+) -> Result<Sitting, Fault>
+    ensures { IfOk result (λ s. s.left ≤ budget) }
 {
     let terminal = keyboard.is_terminal();
     let mut buffer = io::large_buffer();
@@ -171,52 +105,47 @@ fn run<K: Read + IsTerminal, P: Print>(
         sitting: desk_teletype::begin(budget),
         keys: keys::begin(),
         more: true,
-        fault: None,
     };
     for _ in 0..u64::MAX {
         if !so_far.more {
             break;
         }
-        so_far = next(keyboard, printer, memory, &mut buffer, so_far, terminal);
+        so_far = next(keyboard, printer, memory, &mut buffer, so_far, terminal)?;
     }
-    so_far
+    Ok(so_far.sitting)
 }
 
 // Runs the image of a file.
 fn sit(rt: HostRuntime, image: &mut File, budget: u64) -> ExitCode {
     let mut memory = [0u16; MEMORY_WORDS];
     let mut page = [0u8; LINE_BYTES];
-    let last = read_all(image, &mut memory);
-    if let Some(e) = last.error {
+    let mut scanner = desk_image::begin(&mut memory);
+    if let Err(e) = desk_streams::read_all(image, &mut memory, &mut scanner) {
         return desk_streams::fail(&rt.stderr(), rt.alloc(), "teletype: image", e);
     }
-    let unfit = desk_image::unfit_line(last.progress.scanner);
-    if unfit != 0 {
+    if let Some(unfit) = desk_image::unfit_line(scanner) {
         let n = desk_last_lines::put_refused_line(&mut page, unfit);
         return desk_streams::ended(rt.stderr().write_all(&page[..n]));
     }
-    let end = run(&mut rt.stdin(), &rt.stdout(), &mut memory, budget);
-    match end.fault {
-        Some(Fault::Keyboard(e)) => {
+    match run(&mut rt.stdin(), &rt.stdout(), &mut memory, budget) {
+        Ok(end) => {
+            let n = words::put_end(&mut page, end, budget);
+            desk_streams::ended(rt.stderr().write_all(&page[..n]))
+        }
+        Err(Fault::Keyboard(e)) => {
             desk_streams::fail(&rt.stderr(), rt.alloc(), "teletype: read", e)
         }
-        Some(Fault::Printer(e)) => {
+        Err(Fault::Printer(e)) => {
             desk_streams::fail(&rt.stderr(), rt.alloc(), "teletype: write", e)
-        }
-        None => {
-            let n = words::put_end(&mut page, end.sitting, budget);
-            desk_streams::ended(rt.stderr().write_all(&page[..n]))
         }
     }
 }
 
-// Puts an argument at the start of a buffer, and answers how many bytes it has: none where it is missing or has no room.
-fn argument<E: Env>(rt: &E, i: usize, buffer: &mut [u8]) -> usize
-    ensures { result ≤ length buffer.new }
-{
+// An argument, put at the start of a buffer: no byte where it is missing or has no room.
+fn argument<'a, E: Env>(rt: &E, i: usize, buffer: &'a mut [u8]) -> &'a [u8] {
     match rt.arg(i, buffer) {
-        Ok(n) => n,
-        Err(_) => 0,
+        Ok(n) => &buffer[..n],
+        Err(_) => &[],
     }
 }
 
@@ -229,15 +158,13 @@ fn open<F: Files>(rt: &F, name: &[u8]) -> std::io::Result<F::File> {
 }
 
 fn main(rt: HostRuntime) -> ExitCode {
-    let mut text = io::buffer();
-    let digits = argument(&rt, 1, &mut text);
+    let mut digits = io::buffer();
+    let Some(budget) = words::budget_of(argument(&rt, 1, &mut digits)) else {
+        return desk_streams::ended(rt.stderr().write_all(b"teletype: no budget\n"));
+    };
     let mut name = io::buffer();
-    let letters = argument(&rt, 2, &mut name);
-    match words::budget_of(&text[..digits]) {
-        Budget::Unfit => desk_streams::ended(rt.stderr().write_all(b"teletype: no budget\n")),
-        Budget::Steps(budget) => match open(&rt, &name[..letters]) {
-            Ok(mut image) => sit(rt, &mut image, budget),
-            Err(e) => desk_streams::fail(&rt.stderr(), rt.alloc(), "teletype: image", e),
-        },
+    match open(&rt, argument(&rt, 2, &mut name)) {
+        Ok(mut image) => sit(rt, &mut image, budget),
+        Err(e) => desk_streams::fail(&rt.stderr(), rt.alloc(), "teletype: image", e),
     }
 }

@@ -16,5 +16,5 @@ use Rattle.desk_entry.proofs.octet_at.Goals as goal
 pub overflow_cast-result : goal.overflow_cast-result
 overflow_cast-result c = let digits = eqb (run_end Octal c.args.value.now c.args.at) (c.args.at + 3) in
     let narrow = fits byte_bits (octet_at c.args.value.now c.args.at) in
-    let both = and_left (digits && narrow) (eqb (get_or c.args.value.now (c.args.at + 3) space) space) c.requires.fact_2 in
+    let both = and_left (digits && narrow) (eqb (get_or c.args.value.now (c.args.at + 3) space) space) c.requires.octet in
     omega (arith, c.digits_value.ensures, ltb-true (octet_at c.args.value.now c.args.at) (2 ^ byte_bits) (and_right digits narrow both))

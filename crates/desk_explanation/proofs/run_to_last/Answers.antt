@@ -8,5 +8,5 @@ use Rattle.desk_explanation.specs.Explanation.{paper}
 use Rattle.desk_explanation.proofs.run_to_last.Goals as goal
 
 pub returns : goal.returns
-returns c = ap (λ (r : DeviceReport). r.report) c.run_steps-r.ensures
-    ∙ ap (λ (n : ℕ). (emulation (variant_of c.args.devices) c.args.m c.args.c c.args.memory.now n c.args.input.now paper).report) c.fewer.ensures
+returns c = ap (λ (r : DeviceReport). r.report) c.emulate_variant-r.ensures
+    ∙ ap (λ (n : ℕ). (emulation (variant_of c.args.devices) c.args.m c.args.c c.args.memory.now n c.args.input.now paper).report) c.saturating_sub.ensures

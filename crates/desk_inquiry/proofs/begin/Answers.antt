@@ -1,10 +1,8 @@
--- `desk_inquiry::begin`: 4,096 zeros, and line 1.
-use Rattle.std.proofs.Common.{refl}
-use Rattle.desk_image.specs.Input.{clear}
+-- `desk_inquiry::begin`: what is ready where nothing is asked.
 use Rattle.desk_image.specs.Pass.{pass}
 use Rattle.desk_inquiry.specs.Input.{ready}
 use Rattle.desk_inquiry.proofs.begin.Goals as goal
 
 pub returns : goal.returns
-unfolding pass ready clear
-returns c = refl
+unfolding pass ready
+returns c = c.begin.ensures

@@ -16,13 +16,10 @@ unfolding outcome
 same s memory input output e p = e ∙ ap (λ (n : ℕ). emulate_devices s.machine s.devices memory n input output) p
 
 pub overflow_sub-left : goal.overflow_sub-left
-overflow_sub-left c = steps_left _ _ _ _ _ _ _ (same c.args.s c.args.memory.now c.args.input.now c.args.output.now c.emulate_devices-end.ensures c.portion.ensures) (search rules) _ _ _ c.in-Ran.is
+overflow_sub-left c = steps_left _ _ _ _ _ _ _ (same c.args.s c.args.memory.now c.args.input.now c.args.output.now c.emulate_devices-end.ensures c.portion.ensures) (search rules) _ c.in-Ok.is
 
-pub enum_told-1 : goal.enum_told-1
-enum_told-1 c = search rules
+pub returns-in-Ok : goal.returns-in-Ok
+returns-in-Ok c = turned_ran _ _ _ _ _ _ _ (same c.args.s c.args.memory.now c.args.input.now c.args.output.now c.emulate_devices-end.ensures c.portion.ensures) (search rules) _ c.in-Ok.is
 
-pub returns-in-Ran : goal.returns-in-Ran
-returns-in-Ran c = turned_ran _ _ _ _ _ _ _ (same c.args.s c.args.memory.now c.args.input.now c.args.output.now c.emulate_devices-end.ensures c.portion.ensures) (search rules) _ _ _ c.in-Ran.is
-
-pub returns-in-Refused : goal.returns-in-Refused
-returns-in-Refused c = turned_refused _ _ _ _ _ _ _ (same c.args.s c.args.memory.now c.args.input.now c.args.output.now c.emulate_devices-end.ensures c.portion.ensures) (search rules) _ c.in-Refused.is
+pub returns-in-Err : goal.returns-in-Err
+returns-in-Err c = turned_refused _ _ _ _ _ _ _ (same c.args.s c.args.memory.now c.args.input.now c.args.output.now c.emulate_devices-end.ensures c.portion.ensures) (search rules) _ c.in-Err.is

@@ -5,8 +5,8 @@ use Rattle.desk_day_listing.specs.Listing.{budget}
 use Rattle.desk_day_listing.proofs.Rest.{Listed}
 use Rattle.desk_day_listing.proofs.run.put_run.Given as goal
 
-abbrev pub invariant-loop-w : goal.invariant-loop-w
-invariant-loop-w l = Listed (state l.initial.w.processor l.initial.memory) l.initial.page l.initial.w.at (state l.w.processor l.memory) l.page l.w.at l.w.done
+abbrev pub invariant-loop-done : goal.invariant-loop-done
+invariant-loop-done l = Listed (state l.initial.p l.initial.memory) l.initial.draft (state l.p l.memory) l.draft l.done
 
-abbrev pub decreases-loop-w : goal.decreases-loop-w
-decreases-loop-w l = budget - l.w.done
+abbrev pub decreases-loop-done : goal.decreases-loop-done
+decreases-loop-done l = budget - l.done

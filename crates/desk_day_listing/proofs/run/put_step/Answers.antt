@@ -1,8 +1,7 @@
--- `desk_day_listing::run::put_step`: the word is fetched before the step.
-use mathlib.Core.Path.{refl}
+-- `desk_day_listing::run::put_step`: a step is the machine's.
 use Rattle.machine_run.specs.Stretch.{advance}
 use Rattle.desk_day_listing.proofs.run.put_step.Goals as goal
 
-pub returns : goal.returns
+pub returns-clause-steps : goal.returns-clause-steps
 unfolding advance
-returns c = record { state = c.step-q.ensures; count = refl; line = rw c.load-i.ensures at c.put_step_line-end.ensures }
+returns-clause-steps c = c.step-q.ensures

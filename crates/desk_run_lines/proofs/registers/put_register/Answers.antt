@@ -1,12 +1,8 @@
 -- `desk_run_lines::registers::put_register`: name, TAB and digits, LF.
-use native.Mathlib.Omega.{arith}
+use Rattle.std.proofs.Common.{rules, arith, length-append}
 use Rattle.page.proofs.Numbers.{octal_length}
-use Rattle.page.proofs.Writing.{written_then}
 use Rattle.desk_run_lines.proofs.registers.put_register.Goals as goal
 
 pub put_byte-requires : goal.put_byte-requires
-put_byte-requires c = let digits = octal_length c.args.n c.args.value in
-    omega (arith, digits, c.put_field-end.ensures.place, c.put_text-tab.ensures.place, c.requires)
-
-pub returns : goal.returns
-returns c = written_then _ _ (written_then _ _ c.put_text-tab.ensures c.put_field-end.ensures) c.put_byte.ensures
+put_byte-requires c =
+    (search rules, simp (c.put_field.ensures, c.put_text.ensures, length-append) (omega (arith, octal_length c.args.n c.args.value, c.requires)))

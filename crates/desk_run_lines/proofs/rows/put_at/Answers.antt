@@ -1,29 +1,22 @@
 -- `desk_run_lines::rows::put_at`: the label, and the number.
-use native.Mathlib.Omega.{arith}
-use mathlib.Core.List.{[], ◌∷◌}
-use Rattle.page.proofs.Writing.{written_then}
-use Rattle.desk_run_lines.specs.Rows.{at_line}
-use Rattle.desk_run_lines.proofs.RowTexts.{at_size}
+use Rattle.std.proofs.Common.{rules, arith, refl, append_assoc, length-append}
+use Rattle.desk_run_lines.proofs.RowTexts.{at_size, at_line_lem}
 use Rattle.desk_run_lines.proofs.rows.put_at.Goals as goal
 
-pub put_text-name-requires : goal.put_text-name-requires
-put_text-name-requires c = omega (arith, at_size c.args.label.now c.args.row, c.requires)
+pub put_text-requires : goal.put_text-requires
+put_text-requires c = (search rules, omega (arith, at_size c.args.label.now c.args.row, c.requires))
 
-pub put_text-tab-requires : goal.put_text-tab-requires
-put_text-tab-requires c = omega (arith, at_size c.args.label.now c.args.row, c.requires, c.put_text-name.ensures.place)
-
-pub put_byte-number-requires : goal.put_byte-number-requires
-put_byte-number-requires c = omega (arith, at_size c.args.label.now c.args.row, c.requires, c.put_text-name.ensures.place, c.put_text-tab.ensures.place)
-
-pub put_decimal-end-requires : goal.put_decimal-end-requires
-put_decimal-end-requires c = omega (arith, at_size c.args.label.now c.args.row, c.requires, c.put_text-name.ensures.place, c.put_text-tab.ensures.place, c.put_byte-number.ensures.place)
+pub put_text-requires-2 : goal.put_text-requires-2
+put_text-requires-2 c = (search rules, simp (c.put_text.ensures, length-append) (omega (arith, at_size c.args.label.now c.args.row, c.requires)))
 
 pub put_byte-requires : goal.put_byte-requires
-put_byte-requires c = omega (arith, at_size c.args.label.now c.args.row, c.requires, c.put_text-name.ensures.place, c.put_text-tab.ensures.place, c.put_byte-number.ensures.place, c.put_decimal-end.ensures.place)
+put_byte-requires c = (search rules, simp (c.put_text-2.ensures, c.put_text.ensures, length-append) (omega (arith, at_size c.args.label.now c.args.row, c.requires)))
+
+pub put_decimal-requires : goal.put_decimal-requires
+put_decimal-requires c = (search rules, simp (c.put_byte.ensures, c.put_text-2.ensures, c.put_text.ensures, length-append) (omega (arith, at_size c.args.label.now c.args.row, c.requires)))
+
+pub put_byte-requires-2 : goal.put_byte-requires-2
+put_byte-requires-2 c = (search rules, simp (c.put_decimal.ensures, c.put_byte.ensures, c.put_text-2.ensures, c.put_text.ensures, length-append) (omega (arith, at_size c.args.label.now c.args.row, c.requires)))
 
 pub returns : goal.returns
-unfolding at_line
-returns c = written_then _ _
-    (written_then _ _ (written_then _ _ c.put_text-name.ensures c.put_text-tab.ensures)
-    (written_then (_ ∷ []) _ c.put_byte-number.ensures c.put_decimal-end.ensures))
-    c.put_byte.ensures
+returns c = simp (at_line_lem, c.put_byte-2.ensures, c.put_decimal.ensures, c.put_byte.ensures, c.put_text-2.ensures, c.put_text.ensures, append_assoc) refl

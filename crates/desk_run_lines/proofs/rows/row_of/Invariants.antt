@@ -2,13 +2,10 @@
 use mathlib.Core.Path.{◌≡◌}
 use mathlib.Core.List.{[]}
 use Prim.Native.Nat.{◌-◌}
-use lib.ListN.{length, get_or}
+use lib.ListN.{get_or}
 use Rattle.text_fields.specs.Fields.{lines}
 use Rattle.desk_run_lines.specs.Rows.{row_texts}
 use Rattle.desk_run_lines.proofs.rows.row_of.Given as goal
 
-abbrev pub invariant-loop-rest : goal.invariant-loop-rest
-invariant-loop-rest l = get_or (row_texts (lines l.text)) (l.k - 1) [] ≡ get_or (row_texts (lines l.rest)) l.left []
-
-abbrev pub decreases-loop-rest : goal.decreases-loop-rest
-decreases-loop-rest l = length l.rest
+abbrev pub invariant-loop-line : goal.invariant-loop-line
+invariant-loop-line l = get_or (row_texts (lines l.text)) (l.k - 1) [] ≡ get_or (row_texts (lines l.line-iterator.rest.now)) l.left []

@@ -1,5 +1,0 @@
--- `page::put_decimal`: the number falls each time.
-use Rattle.page.proofs.+put_decimal.Given as goal
-
-abbrev pub decreases-put_decimal : goal.decreases-put_decimal
-decreases-put_decimal l = l.x

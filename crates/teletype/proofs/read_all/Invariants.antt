@@ -1,7 +1,0 @@
--- `teletype::read_all`: after each read the scanner and the memory are those of some text, and a read that failed says why.
-use Rattle.std.proofs.Common.{◌↔◌, IsTrue, IsSome}
-use Rattle.desk_image.specs.Scan.{words as image_words, kept, Reached}
-use Rattle.teletype.proofs.read_all.Given as goal
-
-abbrev pub invariant-loop : goal.invariant-loop
-invariant-loop g l = Reached image_words (kept l.last.progress.scanner l.memory) × (IsTrue l.last.progress.failed ↔ IsSome l.last.error)

@@ -78,12 +78,26 @@ fn first_too_wide(widths: &[u64], beyond: u64, values: &[u16]) -> Option<usize>
     None
 }
 
-// Refusals 11 and 12: of memory's length and of its words.
+// The largest of some words, 0 of none.
+fn largest(words: &[u16]) -> u16
+    ensures { (k : ℕ) → get_or words.now k 0 ≤ result }
+{
+    let mut most = 0u16;
+    for word in words {
+        most = most.max(*word);
+    }
+    most
+}
+
+// Refusals 11 and 12: of memory's length and of its words. Where the largest word is none too wide no place is looked for: several words are compared at once.
 pub fn check_memory(memory: &[u16]) -> Result<(), Refusal>
     ensures { result ≡ check_memory memory.now }
 {
     if memory.len() != MEMORY_WORDS {
         return Err(Refusal::MemoryLength);
+    }
+    if word::is_narrow(WORD_BITS, u64::from(largest(memory))) {
+        return Ok(());
     }
     match first_too_wide(&[0; 0], WORD_BITS, memory) {
         Some(place) => Err(Refusal::Word(place)),

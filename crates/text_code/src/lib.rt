@@ -66,5 +66,8 @@ fn emit(code: &mut [u16; CODE_PLACES], words: usize, word: [u16; 4])
     ensures { code.new ≡ sets code.old (4 * words) word }
 {
     let at = 4 * words;
-    code[at..at + 4].copy_from_slice(&word);
+    code[at] = word[0];
+    code[at + 1] = word[1];
+    code[at + 2] = word[2];
+    code[at + 3] = word[3];
 }

@@ -1,9 +1,11 @@
 // The lines of a text, one by one.
 ghost use Rattle.std.specs.Prelude.{◌≡◌, length};
 ghost use Rattle.std.specs.Iterator.{at_most};
+ghost use Rattle.characters.specs.Ascii.{line_feed};
+ghost use Rattle.text_fields.specs.Fields.{before, after};
 ghost use Rattle.text_fields.specs.Steps.{Steps};
 
-use crate::{part_after, part_before};
+use crate::part_before;
 use characters::LINE_FEED;
 
 // A line of a text, its LF aside, whether it has one, the text below it, and the text from its first byte on.
@@ -28,6 +30,15 @@ pub fn lines_of(text: &[u8]) -> Lines<'_>
     Lines { rest: text }
 }
 
+// What stands before the first LF, and what stands after it: its place is looked for once.
+fn cut(text: &[u8]) -> (&[u8], &[u8])
+    ensures line { result.0.now ≡ before line_feed text.now }
+    ensures below { result.1.now ≡ after line_feed text.now }
+{
+    let line = part_before(text, LINE_FEED);
+    (line, characters::part(text, line.len() + 1, text.len()))
+}
+
 impl<'a> Iterator for Lines<'a> {
     type Item = Line<'a>;
 
@@ -40,8 +51,7 @@ impl<'a> Iterator for Lines<'a> {
             return None;
         }
         let rest = self.rest;
-        let bytes = part_before(rest, LINE_FEED);
-        let below = part_after(rest, LINE_FEED);
+        let (bytes, below) = cut(rest);
         self.rest = below;
         Some(Line {
             bytes: bytes,

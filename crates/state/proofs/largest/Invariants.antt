@@ -1,0 +1,7 @@
+-- `state::largest`: no word before the place is larger than the largest of them.
+use Prim.Native.Nat.{ℕ, ◌≤◌, ◌<◌}
+use lib.ListN.{get_or}
+use Rattle.state.proofs.largest.Given as goal
+
+abbrev pub invariant-loop-word : goal.invariant-loop-word
+invariant-loop-word l = (k : ℕ) → k < l.word-index → get_or l.words k 0 ≤ l.most

@@ -1,6 +1,8 @@
 // The lines of what a run with devices read and printed.
 #![tactic(auto)]
 
+pub mod on_page;
+
 ghost use Rattle.std.specs.Prelude.{◌≡◌, ◌+◌, ◌*◌, ◌≤◌, ◌++◌, length};
 ghost use Rattle.desk_exchange.specs.Exchange.{octet, printed_line, exchange_lines};
 ghost use Rattle.desk_exchange.specs.Sizes.{octet_bytes, printed_line_bytes, read_line_bytes};

@@ -222,6 +222,7 @@ fn devices_in(rs: [u16; DESK_REGISTERS]) -> Devices
 
 // Writes the explanation of a text that has been scanned to the start of a page, and answers how many bytes it has: none where
 // registers, budget or memory are unfit for a run, which no text leaves.
+#[inline(never)]
 pub fn explanation(memory: &[u16; MEMORY_WORDS], s: Scanner, page: &mut [u8; PAGE_BYTES]) -> usize
     ensures { Page (scan_explanation (kept s memory.now)) page.old page.new result }
 {

@@ -1,6 +1,8 @@
 // What the last step of a run did: its instruction, and the words of memory that it changed.
 #![tactic(auto)]
 
+pub mod on_page;
+
 ghost use Rattle.std.specs.Prelude.{◌≡◌, ◌+◌, ◌<◌, ◌≤◌, ◌++◌, length};
 ghost use Rattle.desk_last_step.specs.LastStep.{placed, last_line, change_line, change_lines, last_step};
 ghost use Rattle.desk_last_step.specs.Sizes.{last_line_bytes};

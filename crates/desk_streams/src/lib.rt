@@ -1,13 +1,13 @@
 // What a program asks of its streams: a read, all of an input scanned, the line that says what failed, and the status to end with.
 #![tactic(auto)]
 
-ghost use Rattle.std.specs.Prelude.{◌≡◌, ◌≢◌, ◌<◌, ◌≤◌, length, IfOk, OnOk, IfErr};
+ghost use Rattle.std.specs.Prelude.{◌≡◌, ◌≢◌, ◌<◌, ◌≤◌, [], length, IfOk, OnOk, IfErr};
 ghost use Rattle.std.specs.Io.{StartsWith};
 ghost use Rattle.std.specs.Io.KnownBytes.{Consumes, IsAtEnd};
 ghost use Rattle.std.specs.IoError.{error_kind};
 ghost use Rattle.std.specs.Process.{exit_status};
 ghost use Rattle.desk_image.specs.Read.{bytes_read};
-ghost use Rattle.desk_image.specs.Scan.{scan_byte, kept_by};
+ghost use Rattle.desk_image.specs.Scan.{scan_byte, scan_of, kept_by, words, kept, Reached};
 ghost use Rattle.desk_streams.specs.Scans.{Scans};
 
 use desk_image::scan::{Lines, Scanner};
@@ -28,13 +28,14 @@ pub fn read<R: Read>(from: &mut R, buffer: &mut [u8]) -> Result<usize>
     from.read(buffer)
 }
 
-// Reads once, and scans what was read. Answers as the read did.
+// Reads once, and scans what was read. Answers as the read did: 0 at the end alone.
 fn read_some<R: Read, L: Lines<N>, const N: usize>(
     from: &mut R,
     memory: &mut [u16; MEMORY_WORDS],
     s: &mut Scanner<L, N>,
 ) -> Result<usize>
-    ensures { Scans (scan_byte L.reading) (kept_by L.made s.old memory.old) (kept_by L.made s.new memory.new)
+    ensures end { IfOk result (λ n. n ≡ 0 → IsAtEnd (R.remaining from.new)) }
+    ensures scans { Scans (scan_byte L.reading) (kept_by L.made s.old memory.old) (kept_by L.made s.new memory.new)
         (R.remaining from.old) (R.remaining from.new) }
 {
     let mut buffer = io::large_buffer();
@@ -57,6 +58,20 @@ pub fn read_all<R: Read, L: Lines<N>, const N: usize>(
         }
     }
     Ok(())
+}
+
+// Reads an image to its end into a cleared memory: what the scanner and the memory hold then is what the text that was read leaves.
+pub fn read_image<R: Read>(
+    from: &mut R,
+    memory: &mut [u16; MEMORY_WORDS],
+) -> Result<desk_image::Scanner>
+    ensures scanned { IfOk result (λ s. Scans (scan_byte words) (scan_of words []) (kept s memory.new)
+        (R.remaining from.old) (R.remaining from.new)) }
+    ensures reached { IfOk result (λ s. Reached words (kept s memory.new)) }
+{
+    let mut scanner = desk_image::begin(memory);
+    read_all(from, memory, &mut scanner)?;
+    Ok(scanner)
 }
 
 // The status after a write, where nobody is told that it failed.

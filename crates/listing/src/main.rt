@@ -7,10 +7,10 @@ use std::process::ExitCode;
 
 fn main(rt: HostRuntime) -> ExitCode {
     let mut memory = [0u16; MEMORY_WORDS];
-    let mut scanner = desk_image::begin(&mut memory);
-    if let Err(e) = desk_streams::read_all(&mut rt.stdin(), &mut memory, &mut scanner) {
-        return desk_streams::fail(&rt.stderr(), rt.alloc(), "listing: read", e);
-    }
+    let scanner = match desk_streams::read_image(&mut rt.stdin(), &mut memory) {
+        Ok(scanner) => scanner,
+        Err(e) => return desk_streams::fail(&rt.stderr(), rt.alloc(), "listing: read", e),
+    };
     let mut page = [0u8; PAGE_BYTES];
     let n = desk_day_listing::listing(&memory, scanner, &mut page);
     match rt.write_all(&page[..n]) {

@@ -5,6 +5,7 @@ ghost use Rattle.std.specs.Prelude.{◌≡◌, ℕ, ◌+◌, ◌<◌, ◌≤◌,
 ghost use Rattle.characters.specs.Ascii.{tab, digit as Text·digit};
 ghost use Rattle.page.specs.Page.{Page};
 ghost use Rattle.page.specs.Text.{octal, decimal};
+ghost use Rattle.page.specs.Written.{Written};
 
 use characters::TAB;
 use std::marker::Model;
@@ -126,5 +127,15 @@ impl<const N: usize> Draft<N> {
     {
         page[..self.size].copy_from_slice(&self.bytes[..self.size]);
         self.size
+    }
+
+    // Copies the text to a page from a place on, and answers the place after it.
+    pub fn copy_at(&self, page: &mut [u8], at: usize) -> usize
+        requires { at + length self.now ≤ length page.old }
+        ensures { Written self.now page.old at page.new result }
+    {
+        let end = at + self.size;
+        page[at..end].copy_from_slice(&self.bytes[..self.size]);
+        end
     }
 }

@@ -2,7 +2,7 @@
 // or the image's first unfit line, goes to standard error.
 #![tactic(auto)]
 
-ghost use Rattle.std.specs.Prelude.{◌+◌, ◌≤◌, IfOk};
+ghost use Rattle.std.specs.Prelude.{◌+◌, ◌≤◌, length, IfOk};
 ghost use Rattle.desk_teletype.specs.Keys.{key_bytes};
 
 use desk_teletype::keys::{KEY_BYTES, Keys};
@@ -119,10 +119,10 @@ fn run<K: Read + IsTerminal, P: Print>(
 fn sit(rt: HostRuntime, image: &mut File, budget: u64) -> ExitCode {
     let mut memory = [0u16; MEMORY_WORDS];
     let mut page = [0u8; LINE_BYTES];
-    let mut scanner = desk_image::begin(&mut memory);
-    if let Err(e) = desk_streams::read_all(image, &mut memory, &mut scanner) {
-        return desk_streams::fail(&rt.stderr(), rt.alloc(), "teletype: image", e);
-    }
+    let scanner = match desk_streams::read_image(image, &mut memory) {
+        Ok(scanner) => scanner,
+        Err(e) => return desk_streams::fail(&rt.stderr(), rt.alloc(), "teletype: image", e),
+    };
     if let Some(unfit) = desk_image::unfit_line(scanner) {
         let n = desk_last_lines::put_refused_line(&mut page, unfit);
         return desk_streams::ended(rt.stderr().write_all(&page[..n]));
@@ -142,7 +142,9 @@ fn sit(rt: HostRuntime, image: &mut File, budget: u64) -> ExitCode {
 }
 
 // An argument, put at the start of a buffer: no byte where it is missing or has no room.
-fn argument<'a, E: Env>(rt: &E, i: usize, buffer: &'a mut [u8]) -> &'a [u8] {
+fn argument<'a, E: Env>(rt: &E, i: usize, buffer: &'a mut [u8]) -> &'a [u8]
+    ensures { length result.now ≤ length buffer.old }
+{
     match rt.arg(i, buffer) {
         Ok(n) => &buffer[..n],
         Err(_) => &[],
